@@ -1,0 +1,9 @@
+pub mod Limits
+pub mod Refusals
+pub mod Table
+pub mod Pins
+pub mod Pricing
+pub mod Ring
+pub mod Summing
+pub mod Rows
+pub mod Summed
