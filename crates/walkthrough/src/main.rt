@@ -1,4 +1,4 @@
-// Leads the worked trace through a table and its pins, step by step, and prints what each call answers.
+// Leads the worked trace through a table, its pins and the judge, step by step, and prints what each call answers.
 use costs::Cost;
 use costs::plain::Plain;
 use costs::plain::cost::PlainCost;
@@ -13,6 +13,8 @@ use tables::pricing::DifferencePricing;
 use tables::refusal::Refusal;
 use tables::summed::Summed;
 use tables::summed::table::SummedTable;
+
+mod judging;
 
 const SIZE: u32 = 5;
 
@@ -47,7 +49,9 @@ fn run(rt: &LibcRuntime) -> Result<(), AnyError> {
     println!(rt, "")?;
     print_refusals(rt, &mut pins)?;
     println!(rt, "")?;
-    print_cost(rt, &pins)
+    print_cost(rt, &pins)?;
+    println!(rt, "")?;
+    judging::judge_all(rt, SIZE, &TRACE, &EVENTS)
 }
 
 // Takes the events of the window one by one.

@@ -6,7 +6,6 @@ ghost use Rattle.costs.specs.Plain.{opposite as opposed, plain-kind, plain-of,
 use super::Plain;
 use crate::Cost;
 use crate::SPAN_LIMIT;
-use crate::formed;
 use std::fmt;
 
 impl Plain {
@@ -52,7 +51,8 @@ pub impl Cost for Plain as PlainCost {
     }
 
     fn plus(self, other: Plain) -> Plain {
-        if !formed(self.span(), other.span()) {
+        // both spans are at most the limit, so their total fits
+        if self.value.unsigned_abs() + other.value.unsigned_abs() > SPAN_LIMIT {
             return Self::zero();
         }
         Plain {

@@ -1,8 +1,6 @@
-use mathlib.Core.Path.{_≡_, sym}
 use Prim.Native.Nat.{_+_, _≤_}
 use native.Mathlib.Omega.{arith}
 use borrow.Author.Differences.{ints}
-use Rattle.std.proofs.shelf.Tests.{leb-true}
 use Rattle.costs.specs.Kind.{limit}
 use Rattle.costs.specs.Plain.{size}
 use Rattle.costs.proofs.PlainLaws.{plus-by}
@@ -10,6 +8,5 @@ use Rattle.costs.proofs.plain.cost.PlainCost.plus.Needs as need
 
 pub returns : need.returns
 returns c =
-    let few = leb-true _ limit (sym (c .if-not-formed .ensures tt)) in
-    let formed : size (c .args .self) + size (c .args .other) ≤ limit = omega arith in
+    let formed : size (c .args .self) + size (c .args .other) ≤ limit = omega (arith, ints) in
     plus-by (c .args .self) (c .args .other) _ formed (omega (arith, ints))
