@@ -42,5 +42,5 @@ pub trait Cost: Copy {
 pub fn formed(a: u64, b: u64) -> bool
     ensures { λ r. ⌜ r ≡ leb (a + b) limit ⌝ }
 {
-    a <= SPAN_LIMIT && b <= SPAN_LIMIT - a
+    a.saturating_add(b) <= SPAN_LIMIT
 }

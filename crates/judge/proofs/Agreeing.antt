@@ -24,7 +24,7 @@ module _ {C : Type 0} (g g′ : ℕ → ℕ → Grade C) (s : ℕ) (same : (r c 
   all-open-same r [] from to w = refl
   all-open-same r (c ∷ cs) from to w =
       ap (λ x. is-open x && all-open g (pairs-from (r + 1) cs)) (same r c (from, omega arith) (w .0))
-        ∙ ap (λ b. is-open (g′ r c) && b) (all-open-same (r + 1) cs (omega arith) (omega arith) (w .1))
+      ∙ ap (λ b. is-open (g′ r c) && b) (all-open-same (r + 1) cs (omega arith) (omega arith) (w .1))
 
   pub allowed-same : (ns : List ℕ) → Renumbering s ns → allowed g ns ≡ allowed g′ ns
   allowed-same ns renumbers = all-open-same 1 ns (omega arith) (let len = renumbers .0 in omega arith) (renumbers .1)
@@ -34,7 +34,7 @@ module _ {C : Type 0} (g g′ : ℕ → ℕ → Grade C) (s : ℕ) (same : (r c 
     sum-same r [] from to w = refl
     sum-same r (c ∷ cs) from to w =
         ap (λ x. k .plus (cost-of k x) (sum-of k (pair-cost k g) (pairs-from (r + 1) cs))) (same r c (from, omega arith) (w .0))
-          ∙ ap (k .plus (cost-of k (g′ r c))) (sum-same (r + 1) cs (omega arith) (omega arith) (w .1))
+        ∙ ap (k .plus (cost-of k (g′ r c))) (sum-same (r + 1) cs (omega arith) (omega arith) (w .1))
 
     pub cost-same : (ns : List ℕ) → Renumbering s ns → cost k g ns ≡ cost k g′ ns
     cost-same ns renumbers = sum-same 1 ns (omega arith) (let len = renumbers .0 in omega arith) (renumbers .1)

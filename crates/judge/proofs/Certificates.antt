@@ -30,8 +30,8 @@ pub same-beyond : {C : Type 0} (k : Kind C) (s : ℕ) (before after : List C) �
 same-beyond k s before after len past =
     ext-getD (k .zero) (drop s after) (drop s before) (length-drop s after ∙ ap (λ n. n - s) len ∙ sym (length-drop s before))
     (λ i h.
-      let at : s + i + 1 - 1 ≡ s + i = omega arith in
-      getD-drop s after i (k .zero) ∙ ap (λ n. getD after n (k .zero)) (sym at) ∙ past (s + i + 1) (omega arith) ∙ ap (λ n. getD before n (k .zero)) at ∙ sym (getD-drop s before i (k .zero)))
+    let at : s + i + 1 - 1 ≡ s + i = omega arith in
+    getD-drop s after i (k .zero) ∙ ap (λ n. getD after n (k .zero)) (sym at) ∙ past (s + i + 1) (omega arith) ∙ ap (λ n. getD before n (k .zero)) at ∙ sym (getD-drop s before i (k .zero)))
 
 some-number : (o : Option ℕ) → 1 ≤ or-none o → isSome o ≡ true
 some-number None h = absurd (omega arith)
@@ -66,8 +66,8 @@ module _ {C : Type 0} (k : Kind C) (g : ℕ → ℕ → Grade C) (s : ℕ) (seat
       told : (i : ℕ) → Within s i → (x : C) → g i (seat-in seats i) ≡ Open x → listed-cost k prices i ≡ k .minus x (v (seat-in seats i))
       told i w x e =
           priced i w
-            ∙ ap (λ n. k .minus (cost-of k (g i n)) (v n)) (number-is i w)
-            ∙ ap (λ y. k .minus (cost-of k y) (v (seat-in seats i))) e
+          ∙ ap (λ n. k .minus (cost-of k (g i n)) (v n)) (number-is i w)
+          ∙ ap (λ y. k .minus (cost-of k y) (v (seat-in seats i))) e
 
       own : Seating k g s (seat-in seats) (holder-in seats) (listed-cost k prices) v
       own = seating-same k g s (seat-in seats) (seat-in seats) (holder-in seats) (holder-in seats) (seated .u) (listed-cost k prices) v v (λ c w. refl) (λ c w. refl) (event-prices k g s (seat-in seats) (holder-in seats) (seated .u) v (seated .seating) laws bounded all (listed-cost k prices) told) (λ c w. refl) (seated .seating)

@@ -70,24 +70,52 @@ impl<C: Cost> Judge<C> {
         ensures exact { λ r. ⌜ made r (λ v. Exact (C·Cost .kind) (T·TraceTable .means (now (table .entry))) (now (bound .entry)) v) ⌝ }
     {
         let size = table.size() as usize;
-        if !is_roomy(size, numbers.len(), event_prices.len(), number_prices.len(), marks.len(), work.len()) {
+        if !is_roomy(
+            size,
+            numbers.len(),
+            event_prices.len(),
+            number_prices.len(),
+            marks.len(),
+            work.len(),
+        ) {
             return Err(Refusal::ListShort);
         }
         if table.held() < table.places() {
             return Err(Refusal::WindowShort);
         }
         let grades = self.grades.as_mut_slice();
-        let verdict = settle_window(table, size, bound, grades, numbers, event_prices, number_prices, marks, work);
+        let verdict = settle_window(
+            table,
+            size,
+            bound,
+            grades,
+            numbers,
+            event_prices,
+            number_prices,
+            marks,
+            work,
+        );
         Ok(verdict)
     }
 }
 
 // Whether the lists are long enough for that many events.
-fn is_roomy(size: usize, numbers: usize, event_prices: usize, number_prices: usize, marks: usize, work: usize) -> bool
+fn is_roomy(
+    size: usize,
+    numbers: usize,
+    event_prices: usize,
+    number_prices: usize,
+    marks: usize,
+    work: usize,
+) -> bool
     requires { ⌜ size ≤ 64 ⌝ }
     ensures { λ r. ⌜ r ≡ has-room size numbers «event_prices» «number_prices» marks work ⌝ }
 {
-    size <= numbers && size <= event_prices && size <= number_prices && size <= marks && 8 * size <= work
+    size <= numbers
+        && size <= event_prices
+        && size <= number_prices
+        && size <= marks
+        && 8 * size <= work
 }
 
 // The verdict on a full window, with lists that are long enough.
@@ -115,7 +143,11 @@ fn settle_window<C: Cost, T: TraceTable<Value = C>>(
         return Verdict::None;
     }
     let cost = settle_pairs(grades, size, numbers, event_prices, number_prices, work);
-    if cost.at_most(bound) { Verdict::Within(cost) } else { Verdict::Over(cost) }
+    if cost.at_most(bound) {
+        Verdict::Within(cost)
+    } else {
+        Verdict::Over(cost)
+    }
 }
 
 // Writes a least renumbering and its prices, and answers its cost.

@@ -250,7 +250,12 @@ fn clear<C: Cost>(size: usize, prices: &mut [C])
 }
 
 // A renumbering of least cost, and the prices of numbers that prove it so: event after event takes a number, along a shortest augmenting path.
-pub(crate) fn settle<C: Cost>(grades: &[Grade<C>], size: usize, prices: &mut [C], paths: &mut [C]) -> Seats
+pub(crate) fn settle<C: Cost>(
+    grades: &[Grade<C>],
+    size: usize,
+    prices: &mut [C],
+    paths: &mut [C],
+) -> Seats
     requires grid { ⌜ Grid (now grades) size ⌝ }
     requires solvable { ⌜ Solvable (C·Cost .kind) (grade-in (now grades) size) size ⌝ }
     requires prices { ⌜ size ≤ length (now prices) ⌝ }

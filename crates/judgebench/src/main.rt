@@ -1,5 +1,7 @@
 // Judges the windows of a random log one after another, for measuring, and prints how the verdicts fell and what the
 // costs come to. Arguments: the kind of table, size, places, delta, bound and number of windows.
+ghost use mathlib.Core.Path.{_≡_};
+ghost use lib.IntN.{ℤ, pos};
 use costs::Cost;
 use costs::pair::Pair;
 use costs::pair::PairCost;
@@ -32,7 +34,9 @@ struct Random {
 impl Random {
     // A number from 1 to n.
     fn one_to(&mut self, n: u32) -> u32 {
-        self.state = self.state.wrapping_mul(6364136223846793005).wrapping_add(1442695040888963407);
+        self.state = self.state
+            .wrapping_mul(6364136223846793005)
+            .wrapping_add(1442695040888963407);
         let high = self.state >> 33;
         if n == 0 {
             return 0;
@@ -49,20 +53,27 @@ struct Plan {
     windows: u32,
 }
 
-// A cost as one number, to be summed up.
-trait Tally {
-    fn tally(&self) -> i64;
+// A cost as two numbers, the second 0 where it has but one.
+trait Parts {
+    ghost parts: { Self → ℤ × ℤ };
+
+    fn parts(&self) -> (i64, i64)
+        ensures { λ r. ⌜ r ≡ parts (now (self .entry)) ⌝ };
 }
 
-impl Tally for Plain as PlainTally {
-    fn tally(&self) -> i64 {
-        self.value()
+impl Parts for Plain as PlainParts {
+    ghost parts = { λ p. (p .value, pos 0) };
+
+    fn parts(&self) -> (i64, i64) {
+        (self.value(), 0)
     }
 }
 
-impl Tally for Pair<Plain, Plain> as PairTally {
-    fn tally(&self) -> i64 {
-        self.first.value().wrapping_mul(1_000_000).wrapping_add(self.second.value())
+impl Parts for Pair<Plain, Plain> as PairParts {
+    ghost parts = { λ p. (p .first .value, p .second .value) };
+
+    fn parts(&self) -> (i64, i64) {
+        (self.first.value(), self.second.value())
     }
 }
 
@@ -88,7 +99,15 @@ fn run(rt: &LibcRuntime) -> Result<(), AnyError> {
     match kind.as_str() {
         "mismatch" => measure(rt, Mismatch, plan, bound),
         "difference" => measure(rt, Difference { delta }, plan, bound),
-        "mixed" => measure(rt, Mixed { delta }, plan, Pair { first: bound, second: Plain::of(0) }),
+        "mixed" => measure(
+            rt,
+            Mixed { delta },
+            plan,
+            Pair {
+                first: bound,
+                second: Plain::of(0),
+            },
+        ),
         _ => Err("the kind is mismatch, difference or mixed".into()),
     }
 }
@@ -125,7 +144,12 @@ impl<C: Cost> Sheet<C> {
         Ok(sheet)
     }
 
-    fn judge<T: TraceTable<Value = C>>(&mut self, judge: &mut Judge<C>, table: &T, bound: &C) -> Option<Verdict<C>> {
+    fn judge<T: TraceTable<Value = C>>(
+        &mut self,
+        judge: &mut Judge<C>,
+        table: &T,
+        bound: &C,
+    ) -> Option<Verdict<C>> {
         let answer = judge.judge(
             table,
             bound,
@@ -148,23 +172,31 @@ struct Counts {
     within: u64,
     over: u64,
     none: u64,
-    sum: i64,
+    sums: (i64, i64),
 }
 
 impl Counts {
-    fn add<C: Tally + Drop>(&mut self, verdict: Option<Verdict<C>>) {
+    fn add<C: Parts + Drop>(&mut self, verdict: Option<Verdict<C>>) {
         match verdict {
             Some(Verdict::Within(cost)) => {
                 self.within = self.within.wrapping_add(1);
-                self.sum = self.sum.wrapping_add(cost.tally());
+                self.add_cost(cost);
             }
             Some(Verdict::Over(cost)) => {
                 self.over = self.over.wrapping_add(1);
-                self.sum = self.sum.wrapping_add(cost.tally());
+                self.add_cost(cost);
             }
             Some(Verdict::None) => self.none = self.none.wrapping_add(1),
             None => {}
         }
+    }
+
+    fn add_cost<C: Parts + Drop>(&mut self, cost: C) {
+        let (first, second) = cost.parts();
+        self.sums = (
+            self.sums.0.wrapping_add(first),
+            self.sums.1.wrapping_add(second),
+        );
     }
 }
 
@@ -172,15 +204,23 @@ fn print_counts(rt: &impl Print, windows: u32, counts: &Counts) -> Result<(), An
     let within = counts.within;
     let over = counts.over;
     let none = counts.none;
-    let sum = counts.sum;
-    println!(rt, "{windows} windows: within {within}, over {over}, none {none}, sum {sum}")?;
+    let (first, second) = counts.sums;
+    println!(
+        rt,
+        "{windows} windows: within {within}, over {over}, none {none}, costs {first} {second}"
+    )?;
     Ok(())
 }
 
 // Judges one window after another and prints the counts.
-fn measure<P: Pricing + Drop>(rt: &LibcRuntime, pricing: P, plan: Plan, bound: P::Value) -> Result<(), AnyError>
+fn measure<P: Pricing + Drop>(
+    rt: &LibcRuntime,
+    pricing: P,
+    plan: Plan,
+    bound: P::Value,
+) -> Result<(), AnyError>
 where
-    P::Value: Tally,
+    P::Value: Parts,
 {
     let heap = rt.alloc();
     let mut random = Random { state: 1 };
@@ -196,7 +236,12 @@ where
     }
     let mut judge = Judge::new(heap)?;
     let mut sheet = Sheet::new(heap)?;
-    let mut counts = Counts { within: 0, over: 0, none: 0, sum: 0 };
+    let mut counts = Counts {
+        within: 0,
+        over: 0,
+        none: 0,
+        sums: (0, 0),
+    };
     for _ in 0..plan.windows {
         let _ = table.take(random.one_to(plan.size));
         let verdict = sheet.judge(&mut judge, &table, &bound);

@@ -1,20 +1,34 @@
 // Leads the worked trace through a table, its pins and the judge, step by step, and prints what each call answers.
+ghost use mathlib.Core.Path.{_≡_};
+ghost use lib.IntN.{ℤ};
+ghost use Rattle.std.specs.declared.option.Option.{Option as Maybe};
+ghost use Rattle.std.specs.declared.option.Option.the-variants.{Some as Has, None as Lacks};
 use costs::Cost;
+use costs::pair::Pair;
+use costs::pair::PairCost;
 use costs::plain::Plain;
 use costs::plain::cost::PlainCost;
 use costs::plain::cost::PlainDisplay;
+use judge::judging::Judge;
+use judge::verdict::Verdict;
+use std::alloc::AllocError;
+use std::alloc::Global;
 use std::error::AnyError;
+use tables::MAX_SIZE;
 use tables::TraceTable;
 use tables::grade::Grade;
 use tables::pins::Pins;
 use tables::pins::PinsTable;
 use tables::pricing::Difference;
 use tables::pricing::DifferencePricing;
+use tables::pricing::Mismatch;
+use tables::pricing::MismatchPricing;
+use tables::pricing::Mixed;
+use tables::pricing::MixedPricing;
+use tables::pricing::Pricing;
 use tables::refusal::Refusal;
 use tables::summed::Summed;
 use tables::summed::table::SummedTable;
-
-mod judging;
 
 const SIZE: u32 = 5;
 
@@ -51,7 +65,7 @@ fn run(rt: &LibcRuntime) -> Result<(), AnyError> {
     println!(rt, "")?;
     print_cost(rt, &pins)?;
     println!(rt, "")?;
-    judging::judge_all(rt, SIZE, &TRACE, &EVENTS)
+    judge_all(rt)
 }
 
 // Takes the events of the window one by one.
@@ -151,5 +165,180 @@ fn print_cost<T: TraceTable<Value = Plain>>(rt: &impl Print, table: &T) -> Resul
         total = total.plus(cost);
     }
     println!(rt, "cost {total}")?;
+    Ok(())
+}
+
+// The numbers of a cost: one, or two.
+trait Parts {
+    ghost parts: { Self → ℤ × Maybe ℤ };
+
+    fn parts(&self) -> (i64, Option<i64>)
+        ensures { λ r. ⌜ r ≡ parts (now (self .entry)) ⌝ };
+}
+
+impl Parts for Plain as PlainParts {
+    ghost parts = { λ p. (p .value, Lacks) };
+
+    fn parts(&self) -> (i64, Option<i64>) {
+        (self.value(), None)
+    }
+}
+
+impl Parts for Pair<Plain, Plain> as PairParts {
+    ghost parts = { λ p. (p .first .value, Has (p .second .value)) };
+
+    fn parts(&self) -> (i64, Option<i64>) {
+        (self.first.value(), Some(self.second.value()))
+    }
+}
+
+fn show<C: Parts>(rt: &impl Print, cost: &C) -> Result<(), AnyError> {
+    match cost.parts() {
+        (only, None) => print!(rt, " {only}")?,
+        (first, Some(second)) => print!(rt, " ({first}, {second})")?,
+    }
+    Ok(())
+}
+
+// The five lists that a judge is lent.
+#[derive(Drop)]
+struct Sheet<C> {
+    numbers: Vec<u32>,
+    event_prices: Vec<C>,
+    number_prices: Vec<C>,
+    marks: Vec<u32>,
+    work: Vec<C>,
+}
+
+impl<C: Cost> Sheet<C> {
+    // Lists for the largest size.
+    fn new(heap: Global) -> Result<Sheet<C>, AllocError> {
+        let mut sheet = Sheet {
+            numbers: Vec::new(heap),
+            event_prices: Vec::new(heap),
+            number_prices: Vec::new(heap),
+            marks: Vec::new(heap),
+            work: Vec::new(heap),
+        };
+        for _ in 0..MAX_SIZE {
+            sheet.numbers.push(0)?;
+            sheet.event_prices.push(C::zero())?;
+            sheet.number_prices.push(C::zero())?;
+            sheet.marks.push(0)?;
+        }
+        for _ in 0..8 * MAX_SIZE {
+            sheet.work.push(C::zero())?;
+        }
+        Ok(sheet)
+    }
+}
+
+// All the judgements of the worked window.
+fn judge_all(rt: &LibcRuntime) -> Result<(), AnyError> {
+    print!(rt, "difference, delta 1, bound 6:")?;
+    judge_window(rt, Difference { delta: 1 }, Plain::of(6))?;
+    print!(rt, "difference, delta 1, bound 5:")?;
+    judge_window(rt, Difference { delta: 1 }, Plain::of(5))?;
+    print!(rt, "difference, delta 0, bound 6:")?;
+    judge_window(rt, Difference { delta: 0 }, Plain::of(6))?;
+    print!(rt, "mismatch, bound 3:")?;
+    judge_window(rt, Mismatch, Plain::of(3))?;
+    print!(rt, "mixed, delta 4, bound (4, 0):")?;
+    let bound = Pair {
+        first: Plain::of(4),
+        second: Plain::of(0),
+    };
+    judge_window(rt, Mixed { delta: 4 }, bound)
+}
+
+// One judgement: fills a table of that pricing with the window and judges it.
+fn judge_window<P: Pricing + Drop>(
+    rt: &LibcRuntime,
+    pricing: P,
+    bound: P::Value,
+) -> Result<(), AnyError>
+where
+    P::Value: Parts,
+{
+    let Ok(mut table) = Summed::new(pricing, SIZE, &TRACE) else {
+        return Err("the table is refused".into());
+    };
+    for event in EVENTS {
+        let _ = table.take(event);
+    }
+    let mut judge = Judge::new(rt.alloc())?;
+    let mut sheet = Sheet::new(rt.alloc())?;
+    let answer = judge.judge(
+        &table,
+        &bound,
+        &mut sheet.numbers,
+        &mut sheet.event_prices,
+        &mut sheet.number_prices,
+        &mut sheet.marks,
+        &mut sheet.work,
+    );
+    match answer {
+        Ok(Verdict::Within(cost)) => print_found(rt, "within", &cost, SIZE as usize, &sheet),
+        Ok(Verdict::Over(cost)) => print_found(rt, "over", &cost, SIZE as usize, &sheet),
+        Ok(Verdict::None) => print_marks(rt, SIZE as usize, &sheet.marks),
+        Err(refusal) => {
+            let number = refusal.number();
+            println!(rt, " refused with {number}")?;
+            Ok(())
+        }
+    }
+}
+
+// A verdict with a cost: the renumbering, both price lists, and what the prices add up to.
+fn print_found<C: Cost + Parts>(
+    rt: &impl Print,
+    verdict: &str,
+    cost: &C,
+    size: usize,
+    sheet: &Sheet<C>,
+) -> Result<(), AnyError> {
+    print!(rt, " {verdict}")?;
+    show(rt, cost)?;
+    println!(rt, "")?;
+    print!(rt, "  numbers")?;
+    for number in sheet.numbers.iter().take(size) {
+        print!(rt, " {number}")?;
+    }
+    println!(rt, "")?;
+    print!(rt, "  event prices")?;
+    let events = print_prices(rt, &sheet.event_prices, size)?;
+    print!(rt, "  number prices")?;
+    let numbers = print_prices(rt, &sheet.number_prices, size)?;
+    print!(rt, "  all prices add up to")?;
+    show(rt, &events.plus(numbers))?;
+    println!(rt, "")?;
+    Ok(())
+}
+
+// Prints a list of prices, and answers their sum.
+fn print_prices<C: Cost + Parts>(
+    rt: &impl Print,
+    prices: &[C],
+    size: usize,
+) -> Result<C, AnyError> {
+    let mut sum = C::zero();
+    for price in prices.iter().take(size) {
+        show(rt, price)?;
+        sum = sum.plus(*price);
+    }
+    println!(rt, "")?;
+    Ok(sum)
+}
+
+fn print_marks(rt: &impl Print, size: usize, marks: &[u32]) -> Result<(), AnyError> {
+    println!(rt, " none")?;
+    print!(rt, "  marked events")?;
+    for (r, mark) in marks.iter().take(size).enumerate() {
+        if *mark == 1 {
+            let event = r.saturating_add(1);
+            print!(rt, " {event}")?;
+        }
+    }
+    println!(rt, "")?;
     Ok(())
 }

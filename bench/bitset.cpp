@@ -7,6 +7,7 @@
 #include <cstring>
 
 static uint64_t state;
+static volatile int64_t keep;
 static uint32_t next_below(uint32_t n) {
     state = (state * 6364136223846793005ull + 1442695040888963407ull);
     return (uint32_t)((state >> 33) % n);
@@ -17,14 +18,14 @@ struct Plain {
     Plain plus(Plain o) const { return {a + o.a}; }
     Plain minus(Plain o) const { return {a - o.a}; }
     bool at_most(const Plain& o) const { return a <= o.a; }
-    int64_t total() const { return a; }
+    void add_to(int64_t* sums) const { sums[0] += a; }
 };
 struct Paired {
     int64_t a, b;
     Paired plus(Paired o) const { return {a + o.a, b + o.b}; }
     Paired minus(Paired o) const { return {a - o.a, b - o.b}; }
     bool at_most(const Paired& o) const { return a < o.a || (a == o.a && b <= o.b); }
-    int64_t total() const { return a * 1000000 + b; }
+    void add_to(int64_t* sums) const { sums[0] += a; sums[1] += b; }
 };
 
 enum Kind { MISMATCH, DIFFERENCE, MIXED };
@@ -128,7 +129,7 @@ template <class C> static void run(Kind k, int S, int M, int delta, long windows
     static Judge<C> judge;
     judge.S = S;
     long within = 0, over = 0, none = 0;
-    int64_t sum = 0;
+    int64_t sums[2] = {0, 0};
     C u[32], v[32];
     for (long w = 0; w < windows; w++) {
         ring[start] = 1 + next_below(S);
@@ -137,10 +138,11 @@ template <class C> static void run(Kind k, int S, int M, int delta, long windows
         if (!judge.exists()) { none++; continue; }
         C total = judge.settle(v);
         for (int r = 0; r < S; r++) u[r] = judge.cost[r][judge.seat[r]].minus(v[judge.seat[r]]);
-        sum += total.total() + (u[0].total() & 0);
+        total.add_to(sums);
+        keep += u[0].a;
         if (total.at_most(bound)) within++; else over++;
     }
-    printf("%ld windows: within %ld, over %ld, none %ld, sum %lld\n", windows, within, over, none, (long long)sum);
+    printf("%ld windows: within %ld, over %ld, none %ld, costs %lld %lld\n", windows, within, over, none, (long long)sums[0], (long long)sums[1]);
 }
 
 int main(int argc, char** argv) {
