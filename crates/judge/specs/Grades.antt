@@ -4,6 +4,7 @@ use mathlib.Core.List.{List}
 use Prim.Native.Nat.{ℕ, _+_, _-_, _*_, _≤_}
 use lib.ListN.{length, getD}
 use Rattle.costs.specs.Kind.{Kind}
+use Rattle.tables.specs.Limits.{max-size}
 use Rattle.tables.specs.declared.grade.Grade.{Grade}
 use Rattle.tables.specs.declared.grade.Grade.the-variants.{Closed, Open}
 use Rattle.judge.specs.Allowed.{cost-of, allowed, cost}
@@ -15,7 +16,7 @@ grade-in grades s r c = getD grades ((r - 1) * s + (c - 1)) Closed
 
 -- the list has s rows of s grades
 pub record Grid {C : Type 0} (grades : List (Grade C)) (s : ℕ) : Type 0 where
-  pub small : s ≤ 32
+  pub small : s ≤ max-size
   pub whole : s * s ≤ length grades
 
 -- the grade of a renumbering: open at its cost where each of its pairs is open, otherwise closed

@@ -5,19 +5,24 @@ use mathlib.Core.List.{List}
 use Prim.Native.Nat.{ℕ, _-_, _≤_}
 use lib.ListN.{getD}
 use Rattle.costs.specs.Kind.{Kind, AtMost}
+use Rattle.tables.specs.Limits.{pair-limit}
 use Rattle.tables.specs.Table.{Within}
 use Rattle.tables.specs.declared.grade.Grade.{Grade}
 use Rattle.tables.specs.declared.grade.Grade.the-variants.{Open}
 use Rattle.judge.specs.Renumbering.{Renumbering}
 use Rattle.judge.specs.Allowed.{allowed, cost}
 
--- the cost of an open pair has a span of at most 100,000
-abbrev pub Bounded : {C : Type 0} → Kind C → (ℕ → ℕ → Grade C) → ℕ → Type 0
-Bounded {C} k g s = (r c : ℕ) → Within s r → Within s c → (x : C) → g r c ≡ Open x → k .span x ≤ 100000
+-- the largest span of a price
+abbrev pub price-limit : ℕ
+price-limit = 1000000000
 
--- each price has a span of at most 1,000,000,000
+-- the cost of an open pair has at most the span that a table allows
+abbrev pub Bounded : {C : Type 0} → Kind C → (ℕ → ℕ → Grade C) → ℕ → Type 0
+Bounded {C} k g s = (r c : ℕ) → Within s r → Within s c → (x : C) → g r c ≡ Open x → k .span x ≤ pair-limit
+
+-- each price has at most that span
 abbrev pub Priced : {C : Type 0} → Kind C → ℕ → (ℕ → C) → Type 0
-Priced k s u = (r : ℕ) → Within s r → k .span (u r) ≤ 1000000000
+Priced k s u = (r : ℕ) → Within s r → k .span (u r) ≤ price-limit
 
 -- the two prices of an open pair come to at most its cost
 abbrev pub Under : {C : Type 0} → Kind C → (ℕ → ℕ → Grade C) → ℕ → (ℕ → C) → (ℕ → C) → Type 0
