@@ -1,4 +1,6 @@
 // From the text of a job to the bytes of its answer.
+#![tactic(auto)]
+
 ghost use Rattle.std.specs.Prelude.{◌≡◌, IfOk};
 ghost use Rattle.job.specs.Reading.{read, events_read, written};
 ghost use Rattle.answer.specs.Answers.{AnswerTo};

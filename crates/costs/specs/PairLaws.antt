@@ -1,9 +1,9 @@
 -- The pair of two cost kinds keeps the laws, since its parts do.
-use Rattle.std.specs.Prelude.{◌≡◌, ℕ, ◌+◌, ◌<◌, ◌≤◌, max, Bool, true, false, cond, T, ◌⊎◌, nat_le, refl}
+use Rattle.std.specs.Prelude.{◌≡◌, ℕ, ◌+◌, ◌<◌, ◌≤◌, Bool, true, false, cond, T, ◌⊎◌, nat_le, refl}
 use Rattle.std.proofs.Common.{sym, ◌∙◌, ap, inl, inr, arith, leb→le, le→leb}
 use Rattle.std.proofs.Math.Logic.{⊎_elim}
 use Rattle.costs.specs.Kind.{Kind, Laws, Formed, AtMost, limit}
-use Rattle.costs.specs.Pair.{both, pair_zero, pair_span, pair_plus, pair_minus, pair_at_most, pair_kind}
+use Rattle.costs.specs.Pair.{both, pair_zero, pair_span, pair_plus, pair_minus, pair_kind}
 use Rattle.costs.specs.declared.pair.Pair.{Pair}
 
 pub pair_same : {A B : Type 0} (p q : Pair A B) → p.first ≡ q.first → p.second ≡ q.second → p ≡ q

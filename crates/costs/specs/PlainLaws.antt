@@ -1,11 +1,10 @@
 -- Plain costs keep the laws of a cost kind.
-use Rattle.std.specs.Prelude.{◌≡◌, ℕ, ◌+◌, ◌<◌, ◌≤◌, Bool, true, false, T, ◌⊎◌, ℤ, pos, ◌+ℤ◌, ◌-ℤ◌, Some, None, Option, int_le, unsigned_abs, refl}
-use Rattle.std.proofs.Common.{sym, ◌∙◌, ap, inl, inr, ⊎_elim, arith, leb→le, le→leb, lit≤}
+use Rattle.std.specs.Prelude.{◌≡◌, ℕ, ◌+◌, ◌<◌, ◌≤◌, Bool, true, false, T, ◌⊎◌, ℤ, pos, ◌+ℤ◌, ◌-ℤ◌, Some, int_le, unsigned_abs, refl}
+use Rattle.std.proofs.Common.{sym, ◌∙◌, ap, inl, inr, arith, leb→le, le→leb}
 use mathlib.Core.HLevel.{is_prop→PathP}
 use Rattle.std.proofs.Math.Bridge.{le_prop}
 use Rattle.std.proofs.lemmas.Int.{ints}
-use Rattle.std.proofs.lemmas.Bool.{cases_lt}
-use Rattle.costs.specs.Kind.{Kind, Laws, limit}
+use Rattle.costs.specs.Kind.{Laws, limit}
 use Rattle.costs.specs.Plain.{size, if_small, if_any, sum_small, opposite, plain_plus, plain_minus, plain_at_most, plain_kind, plain_from, plain_of}
 use Rattle.costs.specs.declared.plain.Plain.{Plain}
 

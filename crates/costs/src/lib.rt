@@ -2,6 +2,8 @@
 //
 // What a kind means is the ghost record `kind`; the rules that it keeps are the law `laws`. Generic code is
 // proved against these two and against nothing else.
+#![tactic(auto)]
+
 ghost use Rattle.std.specs.Prelude.{◌≡◌, ◌+◌, nat_le};
 ghost use Rattle.costs.specs.Kind.{Kind, Laws, limit};
 

@@ -1,5 +1,7 @@
 // Answers the jobs in its folder and compares each answer with the one that stands beside it, and then a table of faulty
 // texts with their fault lines.
+#![tactic(auto)]
+
 use answer::{Answer, answer_text};
 use anyhow::anyhow;
 use job::{MAX_LOG, MAX_TEXT};

@@ -1,5 +1,7 @@
 // Tries all renumberings of the windows of random jobs, and compares what it finds with the report of each job. It
 // reckons with plain numbers of its own and shares no code with the matcher but the call from a text to its answer.
+#![tactic(auto)]
+
 use answer::{Answer, answer_text};
 use anyhow::anyhow;
 use std::alloc::{AllocError, Global};

@@ -2,6 +2,8 @@
 //
 // What a text tells is the definition `read`; the laws above it say that every job reads back from each of its
 // spellings and nothing else is accepted, that nothing after a fault can change it, and that the fault is the first.
+#![tactic(auto)]
+
 ghost use Rattle.std.specs.Prelude.{◌≡◌};
 ghost use Rattle.job.specs.Limits.{max_text};
 ghost use Rattle.job.specs.Faults.{finding, finding_of};

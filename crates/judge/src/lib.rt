@@ -3,6 +3,8 @@
 // `judging` has the public face, `Judge::judge`. Below it: `grading` reads the table, `matching` settles whether a
 // renumbering exists (no costs in it), `settling` finds a least one with its prices, `reporting` and `marks` write the
 // lists.
+#![tactic(auto)]
+
 mod grading;
 pub mod judging;
 mod marks;

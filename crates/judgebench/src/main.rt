@@ -1,5 +1,7 @@
 // Judges the windows of a random log one after another, for measuring, and prints how the verdicts fell and what the
 // costs come to. Arguments: the kind of table, size, places, delta, bound and number of windows.
+#![tactic(auto)]
+
 ghost use Rattle.std.specs.Prelude.{◌≡◌, ℤ, pos};
 
 use anyhow::anyhow;

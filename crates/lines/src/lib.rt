@@ -2,6 +2,8 @@
 //
 // A line is fields parted by single spaces and ended by a line feed, with numbers in base ten. Each function says what
 // bytes it adds to a text. Where memory runs out it returns an error, and part of a line may stand there.
+#![tactic(auto)]
+
 ghost use Rattle.std.specs.Prelude.{◌≡◌, [], ◌∷◌, ◌++◌, map, IfOk, string_bytes, codes, decimal, OnOk};
 ghost use Rattle.std.specs.Fmt.{signed_decimal};
 ghost use Rattle.lines.specs.Lines.{line};

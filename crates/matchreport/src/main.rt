@@ -1,5 +1,7 @@
 // Reads a job from standard input, and writes its report, or the line of its first fault, to standard output. Ends with
 // status 0 after a report and 1 after a fault line.
+#![tactic(auto)]
+
 ghost use Rattle.std.specs.Prelude.{◌≤◌, length, IfOk};
 
 use answer::{Answer, answer_text};

@@ -1,4 +1,6 @@
 // The report of a log: what a watch finds from its first event to its last.
+#![tactic(auto)]
+
 ghost use Rattle.std.specs.Prelude.{◌≡◌, ℕ, ◌+◌, ◌≤◌, [], ◌∷◌, ◌++◌, length, take, IfOk, IfErr, MatchResult, OnOk};
 ghost use Rattle.watch.specs.Meaning.{ledger_of};
 ghost use Rattle.report.specs.Reports.{Kept, Reported, NotReported};

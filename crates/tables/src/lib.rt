@@ -2,6 +2,8 @@
 //
 // What a table means is the ghost record `means`; the law `sound` says what holds of every table. Code that works
 // over any trace table is proved against these two and the contracts below, and against nothing else.
+#![tactic(auto)]
+
 ghost use Rattle.std.specs.Prelude.{◌≡◌, ◌*◌, length, ◌≢◌};
 ghost use Rattle.tables.specs.Refusals.{answered};
 ghost use Rattle.tables.specs.Table.{Table, Sound, within, take_answer, taken, pair_at, row_at, GridOf};

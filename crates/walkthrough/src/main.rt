@@ -1,4 +1,6 @@
 // Leads the worked trace through a table, its pins and the judge, step by step, and prints what each call answers.
+#![tactic(auto)]
+
 ghost use Rattle.std.specs.Prelude.{◌≡◌, ℤ, Some as Has, None as Lacks, Option as Maybe};
 
 use anyhow::anyhow;

@@ -3,6 +3,8 @@
 //
 // What stands is the ledger, which follows from the table and the bound at the opening and from the calls since. Each
 // call is one step of it, and a refused call changes nothing in it.
+#![tactic(auto)]
+
 ghost use Rattle.std.specs.Prelude.{◌≡◌};
 ghost use Rattle.tables.specs.Refusals.{told, answered};
 ghost use Rattle.judge.specs.Judging.{lists};

@@ -1,5 +1,7 @@
 // Leads the worked trace through a table, its pins, the judge and the watch, step by step, and prints what each call
 // answers.
+#![tactic(auto)]
+
 ghost use Rattle.std.specs.Prelude.{◌≡◌};
 ghost use Rattle.tables.specs.Refusals.{told};
 ghost use Rattle.judge.specs.Judging.{verdict_told, judge_answer};

@@ -9,17 +9,17 @@ use Rattle.job.proofs.Laws.{reading_laws}
 use Rattle.job.proofs.Walked.{walk_fault, reached_fault, walk_goes, reached_goes, step_spoiled, arrives, read_is, events_are, log_written, drop_further}
 use Rattle.job.proofs.read_job.Goals as goal
 
-pub returns-in-err-token : goal.returns-in-err-token
-returns-in-err-token c =
+pub returns-in_err-token : goal.returns-in_err-token
+returns-in_err-token c =
     let text = c.args.text.now in
     let reader = c.loop-place.reader in
     let log = c.loop-place.log in
     let s = state_of reader log in
-    let fault = c.in-err-token.field-0.0 in
-    let n = subst (λ t. Next t c.loop-place.tokens.place c.next_token.new.self.place (Err fault)) c.loop-place.invariant.3 c.in-err-token.ensures.next in
+    let fault = c.in_err-token.field-0.0 in
+    let n = subst (λ t. Next t c.loop-place.tokens.place c.next_token.new.self.place (Err fault)) c.loop-place.invariant.3 c.in_err-token.ensures.next in
     let errs = step_spoiled s n.0 fault n.3 n.4 in
     let short : length text ≤ max_text = omega arith in
-    let p = err_from_is_err_and c.from-residual.result c.from-residual.ensures.1 in
+    let p = err_from_is_err_and c.from_residual.result c.from_residual.ensures.1 in
     let walked = sym c.loop-place.invariant.0 ∙ walk_fault s (runs_at c.loop-place.tokens.place text) n.0 n.1 (finding_of fault) n.2 errs in
     let at = sym c.loop-place.invariant.1 ∙ reached_fault s (runs_at c.loop-place.tokens.place text) n.0 n.1 (finding_of fault) n.2 errs in
     let room = reader.log_room in
@@ -36,7 +36,7 @@ returns-in-End c =
     let reader = c.loop-place.reader in
     let log = c.loop-place.log in
     let s = state_of reader log in
-    let n = subst (λ t. Next t c.loop-place.tokens.place c.next_token.new.self.place (Ok c.in-ok-token.token)) c.loop-place.invariant.3 c.in-ok-token.ensures.next in
+    let n = subst (λ t. Next t c.loop-place.tokens.place c.next_token.new.self.place (Ok c.in_ok-token.token)) c.loop-place.invariant.3 c.in_ok-token.ensures.next in
     let short : length text ≤ max_text = omega arith in
     let done = subst (λ x. Next text c.loop-place.tokens.place c.next_token.new.self.place (Ok x)) c.in-End.is n in
     let walked = sym c.loop-place.invariant.0 ∙ ap (walk s) done.0 in
@@ -58,34 +58,34 @@ loop-place-preserved c =
     let from = c.loop-place.tokens.place in
     let to = c.next_token.new.self.place in
     let t = state_of c.accept.new.self c.accept.new.log in
-    let n = subst (λ x. Next x from to (Ok c.in-ok-token.token)) c.loop-place.invariant.3 c.in-ok-token.ensures.next in
-    let a = arrives s text from to c.in-ok-token.token c.in-default.not-End n in
-    let goes = a.2 ∙ sym c.in-ok-accept.ensures.step in (
+    let n = subst (λ x. Next x from to (Ok c.in_ok-token.token)) c.loop-place.invariant.3 c.in_ok-token.ensures.next in
+    let a = arrives s text from to c.in_ok-token.token c.in_default.not-End n in
+    let goes = a.2 ∙ sym c.in_ok-accept-in_default.ensures.step in (
       sym (walk_goes s (runs_at from text) a.0 (runs_at to text) t a.1 goes) ∙ c.loop-place.invariant.0,
       sym (reached_goes s (runs_at from text) a.0 (runs_at to text) t a.1 goes) ∙ c.loop-place.invariant.1,
-      c.in-ok-accept.ensures.rest ∙ drop_further log c.args.log.now reader.events c.accept.new.self.events c.in-ok-accept.ensures.grown c.loop-place.invariant.2,
-      ap (λ (x : Bor (List ℕ)). x.now) c.in-ok-token.ensures.text ∙ c.loop-place.invariant.3,
-      omega (arith, ap length c.loop-place.invariant.3, c.in-ok-token.ensures.bound),
+      c.in_ok-accept-in_default.ensures.rest ∙ drop_further log c.args.log.now reader.events c.accept.new.self.events c.in_ok-accept-in_default.ensures.grown c.loop-place.invariant.2,
+      ap (λ (x : Bor (List ℕ)). x.now) c.in_ok-token.ensures.text ∙ c.loop-place.invariant.3,
+      omega (arith, ap length c.loop-place.invariant.3, c.in_ok-token.ensures.bound),
       search rules,
     )
 
-pub returns-in-err-accept : goal.returns-in-err-accept
-returns-in-err-accept c =
+pub returns-in_err-accept-in_default : goal.returns-in_err-accept-in_default
+returns-in_err-accept-in_default c =
     let text = c.args.text.now in
     let reader = c.loop-place.reader in
     let log = c.loop-place.log in
     let s = state_of reader log in
     let from = c.loop-place.tokens.place in
     let to = c.next_token.new.self.place in
-    let fault = c.in-err-accept.field-0.0 in
+    let fault = c.in_err-accept-in_default.field-0.0 in
     let after = c.accept.new.self in
     let written = c.accept.new.log in
-    let n = subst (λ x. Next x from to (Ok c.in-ok-token.token)) c.loop-place.invariant.3 c.in-ok-token.ensures.next in
-    let a = arrives s text from to c.in-ok-token.token c.in-default.not-End n in
-    let told-by = c.in-err-accept.ensures in
+    let n = subst (λ x. Next x from to (Ok c.in_ok-token.token)) c.loop-place.invariant.3 c.in_ok-token.ensures.next in
+    let a = arrives s text from to c.in_ok-token.token c.in_default.not-End n in
+    let told-by = c.in_err-accept-in_default.ensures in
     let errs = a.2 ∙ sym told-by.step in
     let short : length text ≤ max_text = omega arith in
-    let p = err_from_is_err_and c.from-residual-in-err-accept.result c.from-residual-in-err-accept.ensures.1 in
+    let p = err_from_is_err_and c.from_residual-in_err-accept-in_default.result c.from_residual-in_err-accept-in_default.ensures.1 in
     let walked = sym c.loop-place.invariant.0 ∙ walk_fault s (runs_at from text) a.0 (runs_at to text) (finding_of fault) a.1 errs in
     let at = sym c.loop-place.invariant.1 ∙ reached_fault s (runs_at from text) a.0 (runs_at to text) (finding_of fault) a.1 errs ∙ sym (told-by.same refl) in
     let room = after.log_room in
@@ -97,5 +97,5 @@ returns-in-err-accept c =
           (told-by.rest ∙ drop_further log c.args.log.now reader.events after.events told-by.grown c.loop-place.invariant.2);
     }
 
-pub returns-then-text-gt-MAX-TEXT : goal.returns-then-text-gt-MAX-TEXT
-returns-then-text-gt-MAX-TEXT c = let long = c.if-text-gt-MAX-TEXT.true in record { answer = search rules; log = search rules; laws = reading_laws }
+pub returns-then-text-gt-MAX_TEXT : goal.returns-then-text-gt-MAX_TEXT
+returns-then-text-gt-MAX_TEXT c = let long = c.if-text-gt-MAX_TEXT.true in record { answer = search rules; log = search rules; laws = reading_laws }

@@ -6,4 +6,4 @@ use Rattle.lines.proofs.push_count_line.Goals as goal
 pub returns : goal.returns
 returns c =
     line_grown (string_bytes c.args.out.now) c.args.word.now [] (map decimal c.args.counts.now)
-    c.in-ok-push_word.ensures (sym (append-nil _)) c.in-ok-push_spaced_counts.ensures c.in-ok-end_line.ensures
+    c.in_ok-push_word.ensures (sym (append-nil _)) c.in_ok-push_spaced_counts.ensures c.in_ok-end_line.ensures

@@ -17,28 +17,28 @@ loop-fed-init g c =
     let start = ledger_of g.T.TraceTable.means c.args.watch.now in
     let log = c.args.log.now in (
       subst (λ (xs : List (Hit g.row.T-Value.Denot)). Partly k start start log 0 xs (0, 0, 0)) (sym c.new-hits.ensures.items) (partly_none k start log),
-      blank_room k start.table.size (sheet_lists c.in-ok-sheet.sheet) (g.met.T.TraceTable.sound c.args.watch.now.table.table).size_to c.in-ok-sheet.ensures,
+      blank_room k start.table.size (sheet_lists c.in_ok-sheet.sheet) (g.met.T.TraceTable.sound c.args.watch.now.table.table).size_to c.in_ok-sheet.ensures,
     )
 
-pub returns-in-err-next : goal.returns-in-err-next
-returns-in-err-next g c =
+pub returns-in_err-next : goal.returns-in_err-next
+returns-in_err-next g c =
     let start = ledger_of g.T.TraceTable.means c.args.watch.now in
     let here = ledger_of g.T.TraceTable.means c.loop-fed.watch in
-    let p = err_from_is_err_and c.from-residual-in-err-next.result c.from-residual-in-err-next.ensures.1 in
+    let p = err_from_is_err_and c.from_residual-in_err-next.result c.from_residual-in_err-next.ensures.1 in
     rw (p.1, p.2) (record {
-      reported = no_turn g.T.Value.Cost.kind start here c.args.log.now c.loop-fed.fed (vec_items c.loop-fed.hits) c.loop-fed.counts (sheet_lists c.loop-fed.sheet) c.loop-fed.invariant.0 c.loop-fed.invariant.1 _ c.in-err-next.ensures.answer;
+      reported = no_turn g.T.Value.Cost.kind start here c.args.log.now c.loop-fed.fed (vec_items c.loop-fed.hits) c.loop-fed.counts (sheet_lists c.loop-fed.sheet) c.loop-fed.invariant.0 c.loop-fed.invariant.1 _ c.in_err-next.ensures.answer;
       windows = tt;
     })
 
-pub overflow-add-fed-in-loop-fed : goal.overflow-add-fed-in-loop-fed
-overflow-add-fed-in-loop-fed g c =
-    let at = turned g.T.Value.Cost.kind (ledger_of g.T.TraceTable.means c.args.watch.now) (ledger_of g.T.TraceTable.means c.loop-fed.watch) c.args.log.now c.loop-fed.fed (vec_items c.loop-fed.hits) c.loop-fed.counts (sheet_lists c.loop-fed.sheet) c.loop-fed.invariant.0 c.loop-fed.invariant.1 c.in-ok-next.next c.in-ok-next.ensures.answer in
+pub overflow_add-fed-in-loop-fed : goal.overflow_add-fed-in-loop-fed
+overflow_add-fed-in-loop-fed g c =
+    let at = turned g.T.Value.Cost.kind (ledger_of g.T.TraceTable.means c.args.watch.now) (ledger_of g.T.TraceTable.means c.loop-fed.watch) c.args.log.now c.loop-fed.fed (vec_items c.loop-fed.hits) c.loop-fed.counts (sheet_lists c.loop-fed.sheet) c.loop-fed.invariant.0 c.loop-fed.invariant.1 c.in_ok-next.next c.in_ok-next.ensures.answer in
     let fits = at.fits in
     search rules
 
 pub added-counts-requires : goal.added-counts-requires
 added-counts-requires g c =
-    let at = turned g.T.Value.Cost.kind (ledger_of g.T.TraceTable.means c.args.watch.now) (ledger_of g.T.TraceTable.means c.loop-fed.watch) c.args.log.now c.loop-fed.fed (vec_items c.loop-fed.hits) c.loop-fed.counts (sheet_lists c.loop-fed.sheet) c.loop-fed.invariant.0 c.loop-fed.invariant.1 c.in-ok-next.next c.in-ok-next.ensures.answer in
+    let at = turned g.T.Value.Cost.kind (ledger_of g.T.TraceTable.means c.args.watch.now) (ledger_of g.T.TraceTable.means c.loop-fed.watch) c.args.log.now c.loop-fed.fed (vec_items c.loop-fed.hits) c.loop-fed.counts (sheet_lists c.loop-fed.sheet) c.loop-fed.invariant.0 c.loop-fed.invariant.1 c.in_ok-next.next c.in_ok-next.ensures.answer in
     let few = c.loop-fed.invariant.0.few in
     let own = at.windows in
     let fits = at.fits in
@@ -46,7 +46,7 @@ added-counts-requires g c =
 
 pub loop-fed-smaller : goal.loop-fed-smaller
 loop-fed-smaller g c =
-    let at = turned g.T.Value.Cost.kind (ledger_of g.T.TraceTable.means c.args.watch.now) (ledger_of g.T.TraceTable.means c.loop-fed.watch) c.args.log.now c.loop-fed.fed (vec_items c.loop-fed.hits) c.loop-fed.counts (sheet_lists c.loop-fed.sheet) c.loop-fed.invariant.0 c.loop-fed.invariant.1 c.in-ok-next.next c.in-ok-next.ensures.answer in
+    let at = turned g.T.Value.Cost.kind (ledger_of g.T.TraceTable.means c.args.watch.now) (ledger_of g.T.TraceTable.means c.loop-fed.watch) c.args.log.now c.loop-fed.fed (vec_items c.loop-fed.hits) c.loop-fed.counts (sheet_lists c.loop-fed.sheet) c.loop-fed.invariant.0 c.loop-fed.invariant.1 c.in_ok-next.next c.in_ok-next.ensures.answer in
     let more : c.loop-fed.fed < length c.args.log.now = omega (arith, c.loop-fed-test.true) in
     let some = at.feeds more in
     let fits = at.fits in
@@ -63,13 +63,13 @@ loop-fed-preserved g c =
     let fed = c.loop-fed.fed in
     let found = vec_items c.loop-fed.hits in
     let found' = vec_items c.keep.new.hits in
-    let n = c.in-ok-next.next in
+    let n = c.in_ok-next.next in
     let before = sheet_lists c.loop-fed.sheet in
     let after = sheet_lists c.next_sheet.new.sheet in
-    let at = turned g.T.Value.Cost.kind (ledger_of g.T.TraceTable.means c.args.watch.now) (ledger_of g.T.TraceTable.means c.loop-fed.watch) c.args.log.now c.loop-fed.fed (vec_items c.loop-fed.hits) c.loop-fed.counts (sheet_lists c.loop-fed.sheet) c.loop-fed.invariant.0 c.loop-fed.invariant.1 c.in-ok-next.next c.in-ok-next.ensures.answer in
-    let done = c.in-ok-next.ensures in
+    let at = turned g.T.Value.Cost.kind (ledger_of g.T.TraceTable.means c.args.watch.now) (ledger_of g.T.TraceTable.means c.loop-fed.watch) c.args.log.now c.loop-fed.fed (vec_items c.loop-fed.hits) c.loop-fed.counts (sheet_lists c.loop-fed.sheet) c.loop-fed.invariant.0 c.loop-fed.invariant.1 c.in_ok-next.next c.in_ok-next.ensures.answer in
+    let done = c.in_ok-next.ensures in
     let kept : Kept (fed + n.fed) n.hit (take c.size-size.result after.numbers) found found' =
-    subst (λ (ns : List ℕ). Kept (fed + n.fed) n.hit (take c.size-size.result ns) found found') c.deref.ensures.value c.in-ok-keep.ensures.kept in
+    subst (λ (ns : List ℕ). Kept (fed + n.fed) n.hit (take c.size-size.result ns) found found') c.deref.ensures.value c.in_ok-keep.ensures.kept in
     let partly = turn_goes_on k start here log fed found c.loop-fed.counts before c.loop-fed.invariant.0 found' after c.size-size.result c.size-size.ensures at.free next n at.walk_is done.after done.left kept in (
       subst (λ (counts : ℕ × ℕ × ℕ). Partly k start next log (fed + n.fed) found' counts) (sym c.added-counts.ensures) partly,
       ap (room_for start.table.size) done.lengths ∙ c.loop-fed.invariant.1,

@@ -11,7 +11,7 @@ loop-hit-preserved g c =
     let parts = g.C.Printed.parts in
     let hit = c.hit-item.result in
     let begin = c.saturating_sub-begin.ensures ∙ begins_at hit.end c.args.places c.requires in
-    let adds = c.in-ok-push_hit.ensures ∙ (λ i. string_bytes c.loop-hit.out ++ line (decimal (begin i) ∷ (map signed_decimal (parts hit.cost) ++ map decimal (c.deref.ensures.value i)))) in
+    let adds = c.in_ok-push_hit.ensures ∙ (λ i. string_bytes c.loop-hit.out ++ line (decimal (begin i) ∷ (map signed_decimal (parts hit.cost) ++ map decimal (c.deref.ensures.value i)))) in
     one_more_hit parts c.args.places c.args.hits.now c.loop-hit.hit-index c.loop-hit-test.true hit c.hit-item.is (string_bytes c.args.out.now) (string_bytes c.loop-hit.out) (string_bytes c.push_hit.new.out) c.loop-hit.invariant adds
 
 pub returns : goal.returns

@@ -14,5 +14,5 @@ returns g c =
     let head = line (codes "report" ∷ decimal (counts.0 + counts.1 + counts.2) ∷ []) in
     let tail = line (codes "end" ∷ decimal counts.0 ∷ decimal counts.1 ∷ decimal counts.2 ∷ []) in
     let middle : string_bytes c.push_hits.new.out ≡ string_bytes c.push_count_line.new.out ++ hits =
-    c.in-ok-push_hits.ensures ∙ (λ i. string_bytes c.push_count_line.new.out ++ hits_bytes g.C.Printed.parts c.args.places (c.deref.ensures.value i)) in
-    in_turn (string_bytes c.push_count_line.new.out) (string_bytes c.new-out.result) head (string_bytes c.push_hits.new.out) hits (string_bytes c.push_count_line-2.new.out) tail c.new-out.ensures.bytes c.in-ok-push_count_line.ensures middle c.in-ok-push_count_line-2.ensures
+    c.in_ok-push_hits.ensures ∙ (λ i. string_bytes c.push_count_line.new.out ++ hits_bytes g.C.Printed.parts c.args.places (c.deref.ensures.value i)) in
+    in_turn (string_bytes c.push_count_line.new.out) (string_bytes c.new-out.result) head (string_bytes c.push_hits.new.out) hits (string_bytes c.push_count_line-2.new.out) tail c.new-out.ensures.bytes c.in_ok-push_count_line.ensures middle c.in_ok-push_count_line-2.ensures

@@ -4,8 +4,8 @@ use Rattle.tables.specs.declared.grade.Grade.TheVariants.{Closed}
 use Rattle.judge.proofs.Grids.{in_grid}
 use Rattle.judge.proofs.grading.grade_of.Goals as goal
 
-pub offset-bounds-grades-event : goal.offset-bounds-grades-event
-offset-bounds-grades-event g c = omega (arith, in_grid c.args.grades.now c.args.size c.args.event c.args.place c.requires.grid c.requires.event c.requires.place)
+pub offset_bounds-grades-event : goal.offset_bounds-grades-event
+offset_bounds-grades-event g c = omega (arith, in_grid c.args.grades.now c.args.size c.args.event c.args.place c.requires.grid c.requires.event c.requires.place)
 
 pub bounds-grades-event : goal.bounds-grades-event
 bounds-grades-event g c = in_grid c.args.grades.now c.args.size c.args.event c.args.place c.requires.grid c.requires.event c.requires.place

@@ -4,11 +4,11 @@ use Rattle.judge.proofs.GradedPairs.{rows_more}
 use Rattle.judge.proofs.Written.{listed_next}
 use Rattle.judge.proofs.grading.open_rows.Goals as goal
 
-pub offset-bounds-grades-event : goal.offset-bounds-grades-event
-offset-bounds-grades-event g c = omega (arith, row_in_grid c.args.grades.now c.args.size c.loop-event.event c.requires c.loop-event-test.true)
+pub offset_bounds-grades-event : goal.offset_bounds-grades-event
+offset_bounds-grades-event g c = omega (arith, row_in_grid c.args.grades.now c.args.size c.loop-event.event c.requires c.loop-event-test.true)
 
-pub slice-bounds-open_row-end : goal.slice-bounds-open_row-end
-slice-bounds-open_row-end g c = omega (arith, row_in_grid c.args.grades.now c.args.size c.loop-event.event c.requires c.loop-event-test.true)
+pub slice_bounds-open_row-end : goal.slice_bounds-open_row-end
+slice_bounds-open_row-end g c = omega (arith, row_in_grid c.args.grades.now c.args.size c.loop-event.event c.requires c.loop-event-test.true)
 
 pub loop-event-preserved : goal.loop-event-preserved
 loop-event-preserved g c =

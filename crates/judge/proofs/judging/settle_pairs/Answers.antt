@@ -28,7 +28,7 @@ unreachable-requires g c =
     let v = listed_cost k c.settle-seats.new.prices in
     let long : s ≤ length c.write_numbers.new.numbers = search rules in
     let cert = certificate k grades s c.settle-seats.result v c.settle-seats.ensures.seated c.settle-seats.ensures.all c.write_numbers.new.numbers c.write_numbers.ensures.numbers g.met.C.Cost.laws c.requires.solvable.bounded long c.write_event_prices.new.event_prices c.write_event_prices.ensures.prices in
-    never_closed _ (c.in-default.ensures ∙ renumbering_open k grades (take s c.write_numbers.new.numbers) cert.1)
+    never_closed _ (c.in_default.ensures ∙ renumbering_open k grades (take s c.write_numbers.new.numbers) cert.1)
 
 pub returns : goal.returns
 returns g c =

@@ -36,7 +36,7 @@ settle_pairs-cost-requires g c =
     let wide = c.requires.grid.whole in
     record {
       grid = record { small = c.requires.grid.small; whole = omega (arith, kept, wide) };
-      solvable = solvable k laws t sound s c.requires.size pairs c.grade_pairs-rows.ensures.graded c.grade_pairs-rows.result c.grade_pairs-rows.ensures.rows c.in-default.ensures;
+      solvable = solvable k laws t sound s c.requires.size pairs c.grade_pairs-rows.ensures.graded c.grade_pairs-rows.result c.grade_pairs-rows.ensures.rows c.in_default.ensures;
       room = (roomy.numbers, roomy.event_prices, roomy.number_prices, (let w = roomy.work in omega arith));
     }
 

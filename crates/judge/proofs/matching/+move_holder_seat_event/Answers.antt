@@ -5,14 +5,14 @@ use Rattle.judge.specs.declared.matching.Seats.{Seats}
 use Rattle.judge.proofs.Holders.{placed_left, left_standing, joined_freed, freed_already, freed_joined, kept_refused, tried_more}
 use Rattle.judge.proofs.matching.+move_holder_seat_event.Goals as goal
 
-pub move_holder-returns-in-default : goal.move_holder-returns-in-default
-move_holder-returns-in-default t c = record {
+pub move_holder-returns-in_default : goal.move_holder-returns-in_default
+move_holder-returns-in_default t c = record {
   untried = record { inner = λ k h. h; fewer = omega arith };
-  outcome = freed_already _ _ _ c.requires.placed (sym c.in-default.ensures);
+  outcome = freed_already _ _ _ c.requires.placed (sym c.in_default.ensures);
 }
 
-pub move_holder_seat_event-requires : goal.move_holder_seat_event-requires
-move_holder_seat_event-requires t c =
+pub move_holder-seat_event-requires : goal.move_holder-seat_event-requires
+move_holder-seat_event-requires t c =
     let held = sym c.in-Some.ensures in
     let l : c.args.number < length c.args.seats.now.holders = omega (arith, c.requires.placed.long, c.told-rows) in (
       search rules,

@@ -5,13 +5,13 @@ use Rattle.tables.specs.Limits.{max_size}
 use Rattle.judge.specs.Matching.{Marks}
 use Rattle.judge.proofs.MarkedRow.{marks_none, marks_skip, marks_more}
 use Rattle.judge.proofs.matching.marked_events.Goals as goal
-use Rattle.judge.proofs.matching.marked_events.Goals.{in-Some, in-default}
+use Rattle.judge.proofs.matching.marked_events.Goals.{in-Some, in_default}
 
 pub loop-number-init : goal.loop-number-init
 loop-number-init c = rw (one_shl c.args.event max_size c.requires.event) (marks_none _ _)
 
-pub overflow-shl-marked-in-Some : goal.overflow-shl-marked-in-Some
-overflow-shl-marked-in-Some c = c.requires.held _ _ c.in-Some.ensures.0
+pub overflow_shl-marked-in-Some : goal.overflow_shl-marked-in-Some
+overflow_shl-marked-in-Some c = c.requires.held _ _ c.in-Some.ensures.0
 
 pub loop-number-preserved : goal.loop-number-preserved
 loop-number-preserved c =
@@ -22,5 +22,5 @@ loop-number-preserved c =
           (let by = w.in-Some.ensures in
           let bit = one_shl w.in-Some.holder max_size (c.requires.held _ _ by.0) in
           subst Marked (sym (w.marked-is ∙ ap (bit_or c.loop-number.marked) bit)) (marks_more _ _ _ _ _ by inv))
-      | in-default w ↦ subst Marked (sym w.marked-is) (marks_skip _ _ _ _ w.in-default.ensures inv)
+      | in_default w ↦ subst Marked (sym w.marked-is) (marks_skip _ _ _ _ w.in_default.ensures inv)
     ]

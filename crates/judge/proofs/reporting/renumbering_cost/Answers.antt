@@ -10,13 +10,13 @@ loop-event-init g c =
     let long = length-take-le c.args.size c.args.numbers.now c.requires.many in
     summed_none g.C.Cost.kind (grade_in c.args.grades.now c.args.size) (take c.args.size c.args.numbers.now) c.args.size c.zero-sum.result (omega arith) c.zero-sum.ensures
 
-pub returns-in-default : goal.returns-in-default
-returns-in-default g c =
+pub returns-in_default : goal.returns-in_default
+returns-in_default g c =
     let grades = grade_in c.args.grades.now c.args.size in
     let h : c.loop-event.event - 1 < c.args.size = omega arith in
     let long = length-take-le c.args.size c.args.numbers.now c.requires.many in
     closed_at g.C.Cost.kind grades (take c.args.size c.args.numbers.now) (c.loop-event.event - 1) (omega arith)
-    (grade_taken c.args.size c.args.numbers.now c.requires.numbers (c.loop-event.event - 1) h grades (c.loop-event.event - 1 + 1) Closed c.in-default.ensures)
+    (grade_taken c.args.size c.args.numbers.now c.requires.numbers (c.loop-event.event - 1) h grades (c.loop-event.event - 1 + 1) Closed c.in_default.ensures)
 
 pub loop-event-preserved : goal.loop-event-preserved
 loop-event-preserved g c =

@@ -1,4 +1,5 @@
-use Rattle.std.proofs.Common.{◌≡◌, ◌-◌, ◌<◌, length, get_or, ◌∙◌, arith, rules}
+use Rattle.std.proofs.Common.{◌≡◌, ℕ, ◌-◌, ◌*◌, ◌<◌, ◌≤◌, length, Fits, w64, get_or, ◌∙◌, arith, rules}
+use Rattle.std.proofs.Math.Nat.{mul-le-mul_right}
 use Rattle.std.proofs.lemmas.List.{get_or_read, drop-set-lt}
 use Rattle.judge.specs.Grades.{grade_in, event_price}
 use Rattle.judge.specs.Rows.{listed}
@@ -6,16 +7,22 @@ use Rattle.judge.proofs.Reports.{number_within, number_up, price_at}
 use Rattle.judge.proofs.Written.{written_more}
 use Rattle.judge.proofs.reporting.write_event_prices.Goals as goal
 
-pub overflow-sub-place : goal.overflow-sub-place
-overflow-sub-place g c = (number_within c.args.size c.args.numbers.now c.requires.numbers c.loop-event.event (omega arith)).0
+-- a place in a list that fits in memory is at an offset that fits
+offset_fits : (i n size : ℕ) → i ≤ n → n * size < 9223372036854775808 → Fits w64 (i * size)
+offset_fits i n size l f = omega (arith, mul-le-mul_right size l)
+
+pub overflow_sub-place : goal.overflow_sub-place
+overflow_sub-place g c = (number_within c.args.size c.args.numbers.now c.requires.numbers c.loop-event.event (omega arith)).0
 
 pub grade_of-grade-requires : goal.grade_of-grade-requires
 grade_of-grade-requires g c =
     let w = number_within c.args.size c.args.numbers.now c.requires.numbers c.loop-event.event (omega arith) in
     record { grid = c.requires.grid; event = omega arith; place = omega arith }
 
-pub offset-bounds-event_prices-event : goal.offset-bounds-event_prices-event
-offset-bounds-event_prices-event g c = let h : c.loop-event.event < length c.loop-event.event_prices = omega (arith, c.requires.many) in search rules
+pub offset_bounds-event_prices-event : goal.offset_bounds-event_prices-event
+offset_bounds-event_prices-event g c =
+    let l : c.loop-event.event ≤ length c.args.event_prices.now = omega (arith, c.requires.many) in
+    offset_fits _ _ _ l c.well_formed.1.1.1.1.0.1
 
 pub loop-event-preserved : goal.loop-event-preserved
 loop-event-preserved g c =

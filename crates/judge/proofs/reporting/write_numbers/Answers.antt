@@ -11,7 +11,7 @@ seated (Some n) e f = f n refl
 
 pub unreachable-requires : goal.unreachable-requires
 unreachable-requires c =
-    seated _ (subst (λ (o : Option ℕ). is_some o ≡ true) (listed_next c.args.seats.now None c.loop-event.event) (c.requires.seated (c.loop-event.event + 1) (omega arith))) c.in-default.not-Some
+    seated _ (subst (λ (o : Option ℕ). is_some o ≡ true) (listed_next c.args.seats.now None c.loop-event.event) (c.requires.seated (c.loop-event.event + 1) (omega arith))) c.in_default.not-Some
 
 pub loop-event-preserved : goal.loop-event-preserved
 loop-event-preserved c =

@@ -31,8 +31,8 @@ unreachable-requires g c =
     let k = g.C.Cost.kind in
     let seats = c.args.seats.now in
     let t = c.loop-turn.trail in
-    never_stuck k g.met.C.Cost.laws (grade_in c.args.grades.now c.args.size) c.args.size c.requires.solvable.bounded c.loop-turn.-turn c.args.event (seat_in seats) (holder_in seats)
-    (listed c.args.prices.now k.zero) (scanned_in t) (path_in k t c.loop-turn.paths) (finder_in t) c.loop-turn.invariant.2 c.requires.solvable c.in-default.ensures
+    never_stuck k g.met.C.Cost.laws (grade_in c.args.grades.now c.args.size) c.args.size c.requires.solvable.bounded c.loop-turn._turn c.args.event (seat_in seats) (holder_in seats)
+    (listed c.args.prices.now k.zero) (scanned_in t) (path_in k t c.loop-turn.paths) (finder_in t) c.loop-turn.invariant.2 c.requires.solvable c.in_default.ensures
 
 pub grade_of-requires : goal.grade_of-requires
 grade_of-requires g c =
@@ -44,8 +44,8 @@ grade_of-requires g c =
       place = lt;
     }
 
-pub unreachable-requires-in-default-grade_of : goal.unreachable-requires-in-default-grade_of
-unreachable-requires-in-default-grade_of g c =
+pub unreachable-requires-in_default-grade_of : goal.unreachable-requires-in_default-grade_of
+unreachable-requires-in_default-grade_of g c =
     let k = g.C.Cost.kind in
     let s = c.args.size in
     let grade = grade_in c.args.grades.now s in
@@ -55,9 +55,9 @@ unreachable-requires-in-default-grade_of g c =
     let j = c.in-Some.place in
     let lt = c.in-Some.ensures.0 in
     let held = holder_at k grade s seats v c.requires.seated j c.in-Some-held.holder lt c.in-Some-held.is in
-    let o = held_open k g.met.C.Cost.laws grade s c.requires.solvable.bounded c.loop-turn.-turn c.args.event (seat_in seats) (holder_in seats) v (scanned_in t) (path_in k t c.loop-turn.paths) (finder_in t) c.loop-turn.invariant.2
+    let o = held_open k g.met.C.Cost.laws grade s c.requires.solvable.bounded c.loop-turn._turn c.args.event (seat_in seats) (holder_in seats) v (scanned_in t) (path_in k t c.loop-turn.paths) (finder_in t) c.loop-turn.invariant.2
     (suc j) (omega (arith, lt)) (omega (arith, held.1, held.0.0)) in
-    c.in-default-grade_of.not-Open o.0 (c.grade_of.ensures ∙ ap (λ (z : ℕ). grade z (suc j)) (sym held.1) ∙ o.1)
+    c.in_default-grade_of.not-Open o.0 (c.grade_of.ensures ∙ ap (λ (z : ℕ). grade z (suc j)) (sym held.1) ∙ o.1)
 
 pub relax_row-requires-in-loop-turn : goal.relax_row-requires-in-loop-turn
 relax_row-requires-in-loop-turn g c =
@@ -87,7 +87,7 @@ loop-turn-preserved g c =
     let lead_is : c.minus-lead.result ≡ k.minus p y = c.minus-lead.ensures ∙ ap (λ z. k.minus z y) (c.cost_at.ensures ∙ p-is) in
     let t₂ = c.relax_row-in-loop-turn.new.trail in
     let after = c.relax_row-in-loop-turn.ensures in
-    let on = scans k g.met.C.Cost.laws grade s c.requires.solvable.bounded c.loop-turn.-turn c.args.event (seat_in seats) (holder_in seats) v (scanned_in t) (path_in k t paths) (finder_in t) c.loop-turn.invariant.2
+    let on = scans k g.met.C.Cost.laws grade s c.requires.solvable.bounded c.loop-turn._turn c.args.event (seat_in seats) (holder_in seats) v (scanned_in t) (path_in k t paths) (finder_in t) c.loop-turn.invariant.2
     (omega (arith, c.requires.grid.small)) (suc j) i (omega (arith, near.0)) held.1 held.0.0 p near.1.1 y (sym c.in-Open.ensures)
     c.minus-lead.result lead_is (listed (set t.scanned j true) false) (scanned_in t₂) (path_in k t₂ c.relax_row-in-loop-turn.new.paths) (finder_in t₂)
     (listed_set s t.scanned false true j (omega (arith, near.0, c.loop-turn.invariant.0)))
@@ -104,7 +104,7 @@ unreachable-requires-2 g c =
     let t = c.loop-turn.trail in
     omega (
       arith,
-      fewer_done k g.met.C.Cost.laws (grade_in c.args.grades.now c.args.size) c.args.size c.requires.solvable.bounded c.loop-turn.-turn c.args.event (seat_in seats) (holder_in seats)
+      fewer_done k g.met.C.Cost.laws (grade_in c.args.grades.now c.args.size) c.args.size c.requires.solvable.bounded c.loop-turn._turn c.args.event (seat_in seats) (holder_in seats)
           (listed c.args.prices.now k.zero) (scanned_in t) (path_in k t c.loop-turn.paths) (finder_in t) c.loop-turn.invariant.2,
       c.loop-turn-test.false,
     )

@@ -9,4 +9,4 @@ invariant-loop-turn g l =
     let k = g.C.Cost.kind in
     (l.size ≤ length l.trail.scanned)
     × (l.size ≤ length l.paths)
-    × Searching k (grade_in l.grades l.size) l.size l.-turn l.event l.seats (listed l.prices k.zero) l.trail l.paths
+    × Searching k (grade_in l.grades l.size) l.size l._turn l.event l.seats (listed l.prices k.zero) l.trail l.paths

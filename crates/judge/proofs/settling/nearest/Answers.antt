@@ -5,7 +5,7 @@ use Rattle.judge.specs.Settling.{scanned_in, path_in}
 use Rattle.judge.proofs.Puts.{none_some}
 use Rattle.judge.proofs.Rows.{listed_suc, Near, near_skip, near_keep, near_take}
 use Rattle.judge.proofs.settling.nearest.Goals as goal
-use Rattle.judge.proofs.settling.nearest.Goals.{then-not-trail-place+in-Some+then-is_nearer, then-not-trail-place+in-Some+else-is_nearer, then-not-trail-place+in-default, else-not-trail-place}
+use Rattle.judge.proofs.settling.nearest.Goals.{then-not-trail-place+in-Some+then-is_nearer, then-not-trail-place+in-Some+else-is_nearer, then-not-trail-place+in_default, else-not-trail-place}
 
 pub loop-place-preserved : goal.loop-place-preserved
 loop-place-preserved g c =
@@ -31,7 +31,7 @@ loop-place-preserved g c =
           let key : w.minus-key.result ≡ k.minus p (v (suc j)) = w.minus-key.ensures ∙ ap (k.minus p) (w.cost_at.ensures ∙ v-is) in
           let p-is : path (suc j) ≡ Some p = sym w.in-Some.ensures in
           rw w.best-is (near_keep k laws done path v j best p p-is (subst (λ z. Preferred k best z false) key w.if-is_nearer.ensures) inv))
-      | then-not-trail-place+in-default w ↦ rw w.best-is (near_skip k laws done path v j best (λ a q r. none_some q (w.in-default.ensures ∙ r)) inv)
+      | then-not-trail-place+in_default w ↦ rw w.best-is (near_skip k laws done path v j best (λ a q r. none_some q (w.in_default.ensures ∙ r)) inv)
       | else-not-trail-place w ↦ rw w.best-is (near_skip k laws done path v j best (λ a q r. both_ways (done (suc j)) a (done-is ∙ w.if-not-trail-place.false)) inv)
     ]
 

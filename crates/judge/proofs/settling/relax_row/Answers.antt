@@ -4,7 +4,7 @@ use Rattle.judge.specs.Settling.{scanned_in, finder_in, path_in}
 use Rattle.judge.specs.Grades.{grade_in}
 use Rattle.judge.proofs.Rows.{listed_suc, listed_here, listed_there, path_here, path_there, relax_done, relax_none, relax_some}
 use Rattle.judge.proofs.settling.relax_row.Goals as goal
-use Rattle.judge.proofs.settling.relax_row.Goals.{then-not-trail-place+in-Some, then-not-trail-place+in-default, else-not-trail-place}
+use Rattle.judge.proofs.settling.relax_row.Goals.{then-not-trail-place+in-Some, then-not-trail-place+in_default, else-not-trail-place}
 
 pub loop-place-preserved : goal.loop-place-preserved
 loop-place-preserved g c =
@@ -29,9 +29,9 @@ loop-place-preserved g c =
           (λ d o n. path_there k t.finders paths j i w.in-Some.path d o n) (path_here k t.finders paths j i w.in-Some.path inside (omega (arith, c.loop-place-test.true, c.requires.paths, c.loop-place.auto.paths)))
           (λ d o n. ap or_none (listed_there t.finders None (Some i) j d o n)) (ap or_none (listed_here t.finders None (Some i) j inside)) in
           rw (w.trail-is, w.paths-is) (inv.0, both.0, both.1))
-      | then-not-trail-place+in-default w ↦
+      | then-not-trail-place+in_default w ↦
           (let both = relax_none k grade i l (scanned_in t₀) old old-by j (path_in k t paths) (finder_in t) inv.1 inv.2 (done-is ∙ w.if-not-trail-place.true)
-          w.path_at-known.result w.path_at-known.ensures w.grade_of-grade.result w.grade_of-grade.ensures w.in-default.ensures in
+          w.path_at-known.result w.path_at-known.ensures w.grade_of-grade.result w.grade_of-grade.ensures w.in_default.ensures in
           rw (w.trail-is, w.paths-is) (inv.0, both.0, both.1))
       | else-not-trail-place w ↦
           (let both = relax_done k grade i l (scanned_in t₀) old old-by j (path_in k t paths) (finder_in t) inv.1 inv.2 (done-is ∙ w.if-not-trail-place.false) in

@@ -16,39 +16,39 @@ loop-turn-init c =
 pub unreachable-requires : goal.unreachable-requires
 unreachable-requires c =
     let by = finder_in c.args.trail.now in
-    let way = way_numbers (c.args.size - c.loop-turn.-turn) c.args.size by c.args.event c.loop-turn.seats c.loop-turn.number c.loop-turn.invariant.1 in
-    omega (arith, way.1, ap or_none c.in-default.is)
+    let way = way_numbers (c.args.size - c.loop-turn._turn) c.args.size by c.args.event c.loop-turn.seats c.loop-turn.number c.loop-turn.invariant.1 in
+    omega (arith, way.1, ap or_none c.in_default.is)
 
 pub seat-own-requires : goal.seat-own-requires
 seat-own-requires c =
     let by = finder_in c.args.trail.now in
-    let way = way_numbers (c.args.size - c.loop-turn.-turn) c.args.size by c.args.event c.loop-turn.seats c.loop-turn.number c.loop-turn.invariant.1 in
+    let way = way_numbers (c.args.size - c.loop-turn._turn) c.args.size by c.args.event c.loop-turn.seats c.loop-turn.number c.loop-turn.invariant.1 in
     let i-is : by c.loop-turn.number ≡ c.in-Some.finder = ap or_none c.in-Some.is in
     record { event = omega (arith, way.1, i-is, c.requires.small); number = omega (arith, way.0, c.requires.small) }
 
 pub returns-then-finder-event : goal.returns-then-finder-event
 returns-then-finder-event c =
-    turned_last c.args.size c.loop-turn.-turn c.loop-turn-test.true (finder_in c.args.trail.now) c.args.event c.loop-turn.seats c.seat-own.new.self c.loop-turn.number c.in-Some.finder
+    turned_last c.args.size c.loop-turn._turn c.loop-turn-test.true (finder_in c.args.trail.now) c.args.event c.loop-turn.seats c.seat-own.new.self c.loop-turn.number c.in-Some.finder
     (ap or_none c.in-Some.is) c.seat-own.ensures.seats c.if-finder-event.true
     ∙ c.loop-turn.invariant.2
 
-pub unreachable-requires-in-default-own : goal.unreachable-requires-in-default-own
-unreachable-requires-in-default-own c =
+pub unreachable-requires-in_default-own : goal.unreachable-requires-in_default-own
+unreachable-requires-in_default-own c =
     let by = finder_in c.args.trail.now in
-    let none : 0 ≡ seat_in c.loop-turn.seats c.in-Some.finder = ap or_none (sym c.in-default-own.is ∙ c.seat-own.ensures.own) in
-    let on = way_next c.args.size c.loop-turn.-turn c.loop-turn-test.true by c.args.event c.loop-turn.seats c.seat-own.new.self c.loop-turn.number c.in-Some.finder
+    let none : 0 ≡ seat_in c.loop-turn.seats c.in-Some.finder = ap or_none (sym c.in_default-own.is ∙ c.seat-own.ensures.own) in
+    let on = way_next c.args.size c.loop-turn._turn c.loop-turn-test.true by c.args.event c.loop-turn.seats c.seat-own.new.self c.loop-turn.number c.in-Some.finder
     (ap or_none c.in-Some.is) c.seat-own.ensures.seats c.if-finder-event.false 0 none c.loop-turn.invariant.1 in
-    omega (arith, (way_numbers (c.args.size - (c.loop-turn.-turn + 1)) c.args.size by c.args.event c.seat-own.new.self 0 on).0)
+    omega (arith, (way_numbers (c.args.size - (c.loop-turn._turn + 1)) c.args.size by c.args.event c.seat-own.new.self 0 on).0)
 
 pub loop-turn-preserved : goal.loop-turn-preserved
 loop-turn-preserved c =
     let by = finder_in c.args.trail.now in
     let next_is : c.in-Some-own.next ≡ seat_in c.loop-turn.seats c.in-Some.finder = ap or_none (sym c.in-Some-own.is ∙ c.seat-own.ensures.own) in
-    let on = way_next c.args.size c.loop-turn.-turn c.loop-turn-test.true by c.args.event c.loop-turn.seats c.seat-own.new.self c.loop-turn.number c.in-Some.finder
+    let on = way_next c.args.size c.loop-turn._turn c.loop-turn-test.true by c.args.event c.loop-turn.seats c.seat-own.new.self c.loop-turn.number c.in-Some.finder
     (ap or_none c.in-Some.is) c.seat-own.ensures.seats c.if-finder-event.false c.in-Some-own.next next_is c.loop-turn.invariant.1 in (
-      (way_numbers (c.args.size - (c.loop-turn.-turn + 1)) c.args.size by c.args.event c.seat-own.new.self c.in-Some-own.next on).0,
+      (way_numbers (c.args.size - (c.loop-turn._turn + 1)) c.args.size by c.args.event c.seat-own.new.self c.in-Some-own.next on).0,
       on,
-      turned_next c.args.size c.loop-turn.-turn c.loop-turn-test.true by c.args.event c.loop-turn.seats c.seat-own.new.self c.loop-turn.number c.in-Some.finder
+      turned_next c.args.size c.loop-turn._turn c.loop-turn-test.true by c.args.event c.loop-turn.seats c.seat-own.new.self c.loop-turn.number c.in-Some.finder
           (ap or_none c.in-Some.is) c.seat-own.ensures.seats c.if-finder-event.false c.in-Some-own.next next_is
           ∙ c.loop-turn.invariant.2,
     )

@@ -4,7 +4,7 @@ use Rattle.lines.proofs.fields.push_spaced_counts.Goals as goal
 
 pub loop-count-preserved : goal.loop-count-preserved
 loop-count-preserved c =
-    numbers_more _ _ _ c.args.counts.now c.loop-count.count_index (omega arith) c.loop-count.invariant c.in-ok-push_spaced_number.ensures
+    numbers_more _ _ _ c.args.counts.now c.loop-count.count-index (omega arith) c.loop-count.invariant c.in_ok-push_spaced_number.ensures
 
 pub returns : goal.returns
-returns c = numbers_all _ _ c.args.counts.now c.loop-count.count_index (omega arith) c.loop-count.invariant
+returns c = numbers_all _ _ c.args.counts.now c.loop-count.count-index (omega arith) c.loop-count.invariant

@@ -4,15 +4,15 @@ use Rattle.std.proofs.lemmas.List.Edits.{length-between}
 use Rattle.tables.proofs.Grids.{rows_more}
 use Rattle.tables.proofs.TraceTable.grid.Goals as goal
 
-pub offset-bounds-grades-r : goal.offset-bounds-grades-r
-offset-bounds-grades-r g c =
+pub offset_bounds-grades-r : goal.offset_bounds-grades-r
+offset_bounds-grades-r g c =
     let top = c.size-top.result in
     let whole : length c.args.grades.now ≡ top * top = omega arith in
     let h : c.loop-r.r * top < length c.loop-r.grades = omega (arith, whole, c.loop-r.auto.grades, mul-add-lt c.loop-r.r top 0 top c.loop-r-test.true (omega (arith, c.loop-r-test.true))) in
     search rules
 
-pub slice-bounds-row-end : goal.slice-bounds-row-end
-slice-bounds-row-end g c =
+pub slice_bounds-row-end : goal.slice_bounds-row-end
+slice_bounds-row-end g c =
     let top = c.size-top.result in
     let whole : length c.args.grades.now ≡ top * top = omega arith in
     omega (arith, whole, c.loop-r.auto.grades, c.loop-r-test.true, mul-add-lt c.loop-r.r top (top - 1) top c.loop-r-test.true (omega (arith, c.loop-r-test.true)))

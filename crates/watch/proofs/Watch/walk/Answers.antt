@@ -35,7 +35,7 @@ loop-i-preserved g c =
     let room = room_stays here next (get_or c.args.events.now c.loop-i.i 0) between after done.after c.loop-i.invariant.1 (omega arith) (omega arith) (omega arith) (omega arith) (omega arith) in
     elim c.match-judge_after.branch [
       | in-NotFull w ↦ (rw (w.over-is, w.none-is) (short_goes_on came inside x done.outcome next done.after after done.left w.in-NotFull.is), room, omega (arith, w.over-is, w.none-is))
-      | in-Miss w ↦ (rw (w.over-is, w.none-is) (miss_goes_on came inside x done.outcome next done.after after done.left w.in-Miss.-cost w.in-Miss.is), room, omega (arith, w.over-is, w.none-is))
+      | in-Miss w ↦ (rw (w.over-is, w.none-is) (miss_goes_on came inside x done.outcome next done.after after done.left w.in-Miss._cost w.in-Miss.is), room, omega (arith, w.over-is, w.none-is))
       | in-Blocked w ↦ (rw (w.over-is, w.none-is) (blocked_goes_on came inside x done.outcome next done.after after done.left w.in-Blocked.is), room, omega (arith, w.over-is, w.none-is))
     ]
 

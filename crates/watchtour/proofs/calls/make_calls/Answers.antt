@@ -8,8 +8,8 @@ pub loop-step-preserved : goal.loop-step-preserved
 loop-step-preserved c =
     let steps = c.args.steps.now in
     let i = c.loop-step.step-index in
-    rw (c.in-ok-push.ensures.items, take_more steps i (Feed 0) c.loop-step-test.true)
-    (stand_push (take i steps) (vec_items c.loop-step.calls) _ _ c.loop-step.invariant c.in-ok-call.ensures)
+    rw (c.in_ok-push.ensures.items, take_more steps i (Feed 0) c.loop-step-test.true)
+    (stand_push (take i steps) (vec_items c.loop-step.calls) _ _ c.loop-step.invariant c.in_ok-call.ensures)
 
 pub returns : goal.returns
 returns c =

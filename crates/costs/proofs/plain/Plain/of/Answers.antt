@@ -1,4 +1,4 @@
-use Rattle.std.proofs.Common.{◌≡◌, ◌≤◌, sym, ◌∙◌, arith, rules}
+use Rattle.std.proofs.Common.{◌≤◌, arith}
 use borrow.Author.Differences.{ints}
 use Rattle.costs.specs.Kind.{limit}
 use Rattle.costs.specs.PlainLaws.{plain_same, plain_of_value}

@@ -20,24 +20,16 @@ returns-in-Err c =
       events = refl;
     }
 
-pub invariant-of-self-2 : goal.invariant-of-self-2
-invariant-of-self-2 c =
-    let s = c.args.self.now in (
-      s.sized,
-      (
-        search rules,
-        (
-          search rules,
-          (
-            search rules,
-            (
-              stands_more s.size c.args.event c.args.n s.pins s.pairs s.pinned s.stands c.in-default.ensures (search rules) (search rules),
-              tt,
-            ),
-          ),
-        ),
-      ),
-    )
+pub invariant_of-self-2 : goal.invariant_of-self-2
+invariant_of-self-2 c =
+    let s = c.args.self.now in
+    record {
+      sized = s.sized;
+      pin_room = search rules;
+      trace_room = search rules;
+      log_room = search rules;
+      stands = stands_more s.size c.args.event c.args.n s.pins s.pairs s.pinned s.stands c.in_default.ensures (search rules) (search rules);
+    }
 
 pub returns : goal.returns
 returns c =
@@ -45,7 +37,7 @@ returns c =
     let in' : s.pairs < length s.pins = search rules in
     record {
       step = λ log.
-          took_pin s.size c.args.event c.args.n s.pins s.pairs s.pinned s.stands c.in-default.ensures in'
+          took_pin s.size c.args.event c.args.n s.pins s.pairs s.pinned s.stands c.in_default.ensures in'
           s.kind c.next_of-self.result c.args.after c.args.first (take s.places s.trace) (take s.events log)
           (c.next_of-self.ensures ∙ ap (coming Pins) c.saturating_sub.ensures);
       same = λ q log. absurd (true≢false q);

@@ -37,7 +37,7 @@ returns-in-Some c =
 pub ascii-requires : goal.ascii-requires
 ascii-requires c =
     let text = c.args.self.now.text.now in
-    unspoiled_low c.is_of_sort-letters.result c.run_start-start.result (take (c.run_end-end.result - c.run_start-start.result) (drop c.run_start-start.result text)) (sym c.spoiled.ensures ∙ c.in-default.is)
+    unspoiled_low c.is_of_sort-letters.result c.run_start-start.result (take (c.run_end-end.result - c.run_start-start.result) (drop c.run_start-start.result text)) (sym c.spoiled.ensures ∙ c.in_default.is)
 
 pub returns-then-letters : goal.returns-then-letters
 returns-then-letters c =
@@ -52,7 +52,7 @@ returns-then-letters c =
     record {
       next = (
         token_run text from start end letters c.spoiled.result in' c.run_start-start.ensures.runs c.run_start-start.ensures.stops short c.run_end-end.ensures.front c.run_end-end.ensures.runs c.is_of_sort-letters.ensures c.spoiled.ensures ∙ ap (λ (bs : List ℕ). run_at start bs ∷ runs_at end text) (sym c.ascii.ensures),
-        ap (λ (bs : List ℕ). sort (run_at start bs)) c.ascii.ensures ∙ token_sort text from start end letters c.spoiled.result in' c.run_start-start.ensures.runs c.run_start-start.ensures.stops short c.run_end-end.ensures.front c.run_end-end.ensures.runs c.is_of_sort-letters.ensures c.spoiled.ensures ∙ ap (sorted letters) c.in-default.is ∙ cc c.if-letters.true,
+        ap (λ (bs : List ℕ). sort (run_at start bs)) c.ascii.ensures ∙ token_sort text from start end letters c.spoiled.result in' c.run_start-start.ensures.runs c.run_start-start.ensures.stops short c.run_end-end.ensures.front c.run_end-end.ensures.runs c.is_of_sort-letters.ensures c.spoiled.ensures ∙ ap (sorted letters) c.in_default.is ∙ cc c.if-letters.true,
         omega arith,
       );
       text = refl;
@@ -72,7 +72,7 @@ returns-else-letters c =
     record {
       next = (
         token_run text from start end letters c.spoiled.result in' c.run_start-start.ensures.runs c.run_start-start.ensures.stops short c.run_end-end.ensures.front c.run_end-end.ensures.runs c.is_of_sort-letters.ensures c.spoiled.ensures,
-        token_sort text from start end letters c.spoiled.result in' c.run_start-start.ensures.runs c.run_start-start.ensures.stops short c.run_end-end.ensures.front c.run_end-end.ensures.runs c.is_of_sort-letters.ensures c.spoiled.ensures ∙ ap (sorted letters) c.in-default.is ∙ cc c.if-letters.false,
+        token_sort text from start end letters c.spoiled.result in' c.run_start-start.ensures.runs c.run_start-start.ensures.stops short c.run_end-end.ensures.front c.run_end-end.ensures.runs c.is_of_sort-letters.ensures c.spoiled.ensures ∙ ap (sorted letters) c.in_default.is ∙ cc c.if-letters.false,
         omega arith,
       );
       text = refl;

@@ -6,4 +6,4 @@ use Rattle.lines.proofs.printed.PairPrinted.push_parts.Goals as goal
 pub returns : goal.returns
 returns g c =
     both_grown (string_bytes c.args.out.now) (g.A.Printed.parts c.args.self.now.first) (g.B.Printed.parts c.args.self.now.second)
-    c.in-ok-push_parts.ensures c.in-ok-push_parts-2.ensures
+    c.in_ok-push_parts.ensures c.in_ok-push_parts-2.ensures

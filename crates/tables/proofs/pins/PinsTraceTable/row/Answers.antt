@@ -9,7 +9,7 @@ returns-in-Some g c =
     row_pinned (g.T.TraceTable.means own.table) (pins_in own.pins) c.args.event (length c.args.row.now) c.in-Some.pin c.row.new.row c.close_others.new.row
     (sym c.in-Some.ensures) c.row.ensures c.close_others.ensures
 
-pub returns-in-default : goal.returns-in-default
-returns-in-default g c =
+pub returns-in_default : goal.returns-in_default
+returns-in_default g c =
     let own = c.args.self.now in
-    row_free (g.T.TraceTable.means own.table) (pins_in own.pins) c.args.event (length c.args.row.now) c.row.new.row (sym c.in-default.ensures) c.row.ensures
+    row_free (g.T.TraceTable.means own.table) (pins_in own.pins) c.args.event (length c.args.row.now) c.row.new.row (sym c.in_default.ensures) c.row.ensures

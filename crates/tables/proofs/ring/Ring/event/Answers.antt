@@ -10,8 +10,8 @@ slot_of-requires c =
     let held = r.counted in
     (r.begun, (omega arith, r.placed.1))
 
-pub offset-bounds-self-slot_of : goal.offset-bounds-self-slot_of
-offset-bounds-self-slot_of c = let top = c.args.self.now.placed.1 in search rules
+pub offset_bounds-self-slot_of : goal.offset_bounds-self-slot_of
+offset_bounds-self-slot_of c = let top = c.args.self.now.placed.1 in search rules
 
 pub bounds-self-slot_of : goal.bounds-self-slot_of
 bounds-self-slot_of c = let top = c.args.self.now.placed.1 in let below = c.slot_of.ensures.below in omega arith

@@ -7,22 +7,16 @@ use Rattle.tables.specs.Table.{within}
 use Rattle.tables.proofs.Traces.{padded_at}
 use Rattle.tables.proofs.summed.Summed.new.Goals as goal
 
-pub invariant-of-result : goal.invariant-of-result
-invariant-of-result g c =
+pub invariant_of-result : goal.invariant_of-result
+invariant_of-result g c =
     let xs = c.args.trace.now in
     let sized : within max_size c.args.size ≡ true = sym c.if-not-is_within.ensures in
     let all : all_within c.args.size xs ≡ true = sym c.if-not-are_within.ensures in
     let places = c.new.ensures.places in
-    let none : length (ring_events c.new.result) ≡ 0 = ap length c.new.ensures.events in (
-      c.padded.ensures.whole,
-      (
-        (grind (arith, nat_tests), grind (arith, nat_tests)),
-        (
-          λ j h. padded_at c.args.size xs c.padded.result c.padded.ensures.front all j (omega arith),
-          (
-            λ j h. absurd (omega arith),
-            tt,
-          ),
-        ),
-      ),
-    )
+    let none : length (ring_events c.new.result) ≡ 0 = ap length c.new.ensures.events in
+    record {
+      whole = c.padded.ensures.whole;
+      sized = (grind (arith, nat_tests), grind (arith, nat_tests));
+      traced = λ j h. padded_at c.args.size xs c.padded.result c.padded.ensures.front all j (omega arith);
+      events = λ j h. absurd (omega arith);
+    }

@@ -23,15 +23,15 @@ loop-j-init g c =
     let t = c.args.self.now in
     rw c.len-j.ensures.value (grid_begins g.P.Value.Cost.kind (g.P.Pricing.prices t.pricing) t.size (take t.window.places t.trace) (ring_events t.window) (length c.args.grades.now) c.start_row.new.row (omega arith) c.start_row.ensures)
 
-pub offset-bounds-grades-at : goal.offset-bounds-grades-at
-offset-bounds-grades-at g c =
+pub offset_bounds-grades-at : goal.offset_bounds-grades-at
+offset_bounds-grades-at g c =
     let s = c.args.self.now.size in
     let r = row_inside g c in
     let h : (c.event.result - 1) * s < length c.args.grades.now = omega (arith, r.0, r.1, c.loop-j.auto.grades, c.start_row.ensures.whole) in
     search rules
 
-pub slice-bounds-row-end : goal.slice-bounds-row-end
-slice-bounds-row-end g c = let r = row_inside g c in omega (arith, r.1)
+pub slice_bounds-row-end : goal.slice_bounds-row-end
+slice_bounds-row-end g c = let r = row_inside g c in omega (arith, r.1)
 
 pub loop-j-preserved : goal.loop-j-preserved
 loop-j-preserved g c =
