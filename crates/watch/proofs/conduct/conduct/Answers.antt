@@ -22,5 +22,5 @@ loop-call-preserved g c =
 pub returns : goal.returns
 returns g c =
     let opens = opens_at _ c.in_ok-watch.ensures in
-    let all = all_came c.into_iter-call-iterator.result c.loop-call.yielded c.loop-call.call-iterator c.next.new.self c.loop-call.yielded_by c.in-None.ensures.steps ∙ c.into_iter-call-iterator.ensures.into_iter-gives.0 in
+    let all = all_came c.into_iter-call-iterator.result c.loop-call.yielded c.loop-call.call-iterator c.next.new.self c.loop-call.yielded_by c.in-None.ensures.steps ∙ c.into_iter-call-iterator.ensures.into_iter_gives.0 in
     record { opens = opens.0; run = rw (← opens.1, ← all) c.loop-call.invariant.0 }
