@@ -1,11 +1,11 @@
 -- A table and a watch that are not refused.
-use Rattle.std.proofs.Common.{◌≡◌, ℕ, Bool, true, false, cond, ◌&&◌, List, [], length, Ok, Err, Result, sym, refl, ap, ◌∙◌, arith}
+use Rattle.std.proofs.Common.{◌≡◌, ℕ, Bool, true, ◌&&◌, List, [], length, Ok, Result, refl}
 use Rattle.costs.specs.Kind.{Kind}
 use Rattle.tables.specs.Limits.{max_size, max_places}
 use Rattle.tables.specs.Summing.{summing, all_within, make_answer}
 use Rattle.tables.specs.Table.{Table, within}
 use Rattle.tables.specs.declared.grade.Grade.{Grade}
-use Rattle.watch.specs.Ledger.{Ledger, is_bound, opened, open_answer}
+use Rattle.watch.specs.Ledger.{is_bound, opened, open_answer}
 
 module _ {C : Type 0} (k : Kind C) where
   pub table_made : (price : ℕ → ℕ → Grade C) (usable : Bool) (size : ℕ) (trace : List ℕ) → within max_size size ≡ true → (within max_places (length trace) && all_within size trace) ≡ true → usable ≡ true → make_answer k price usable size trace ≡ Ok (summing k price size trace [])

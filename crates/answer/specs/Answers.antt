@@ -13,7 +13,6 @@ use Rattle.report.specs.Windows.{AllWindows}
 use Rattle.report.specs.declared.Report.{Report}
 use Rattle.job.specs.Content.{Content, pins_after, laid}
 use Rattle.job.specs.Faults.{Finding}
-use Rattle.job.specs.Reading.{read}
 use Rattle.job.specs.declared.accepted.Pin.{Pin}
 use Rattle.job.specs.declared.accepted.Kind.{Kind as JobKind}
 use Rattle.job.specs.declared.accepted.Kind.TheVariants.{Mismatch, Difference, Mixed}

@@ -1,5 +1,5 @@
 -- Every job reads back from its spelling.
-use Rattle.std.proofs.Common.{◌≡◌, ◌+◌, ◌*◌, ◌%◌, ◌≤◌, true, List, [], ◌∷◌, ◌++◌, length, Ok, refl, ap, ◌∙◌, arith}
+use Rattle.std.proofs.Common.{◌≡◌, ◌*◌, ◌%◌, ◌≤◌, true, List, [], ◌∷◌, ◌++◌, length, Ok, refl, ap, ◌∙◌, arith}
 use native.Mathlib.Nat.{mul-mod_right}
 use Rattle.std.proofs.lemmas.Bool.{cond-true, eq-eqb, le-leb, and_from}
 use Rattle.tables.specs.Limits.{max_places}

@@ -13,7 +13,7 @@ use Rattle.job.specs.Content.{Content, bounds_of, with_size}
 use Rattle.job.specs.Words.{kind_word, title_word, coming}
 use Rattle.job.specs.States.{State, state, start}
 use Rattle.job.specs.Steps.{sort_step}
-use Rattle.job.specs.Reading.{by_answer, walk, ended, finish, read}
+use Rattle.job.specs.Reading.{by_answer, walk, ended, finish}
 use Rattle.job.specs.Spelling.{section_runs, by_turns, spelled, delta_of, Accepted, Valid}
 use Rattle.job.specs.Laws.{OnlyJobs}
 use Rattle.job.specs.declared.accepted.Kind.{Kind}

@@ -1,10 +1,9 @@
 -- The grades that a sound table answers have bounded costs.
-use Rattle.std.proofs.Common.{◌≡◌, ℕ, ◌≤◌, Bool, true, cond, ◌&&◌, leb, sym, ap, ◌∙◌, subst, arith}
+use Rattle.std.proofs.Common.{◌≡◌, ℕ, ◌≤◌, true, cond, leb, sym, ap, ◌∙◌, subst, arith}
 use Rattle.std.proofs.lemmas.Bool.{and_from, le-leb}
 use Rattle.costs.specs.Kind.{Kind}
 use Rattle.tables.specs.Table.{Table, Within, within, Spans, Sound, pair_at}
-use Rattle.tables.specs.declared.grade.Grade.{Grade}
-use Rattle.tables.specs.declared.grade.Grade.TheVariants.{Closed, Open}
+use Rattle.tables.specs.declared.grade.Grade.TheVariants.{Closed}
 use Rattle.judge.specs.Prices.{Bounded}
 
 -- the test that n is one of 1 to s

@@ -1,5 +1,5 @@
 -- From seats to the lists that are handed out: the renumbering, its prices, and what stays beyond the size.
-use Rattle.std.proofs.Common.{◌≡◌, ℕ, ◌+◌, ◌-◌, ◌<◌, ◌≤◌, true, List, length, get_or, take, drop, is_some, Some, None, Option, sym, refl, ap, ◌∙◌, arith, length-drop}
+use Rattle.std.proofs.Common.{◌≡◌, ℕ, ◌+◌, ◌-◌, ◌≤◌, true, List, length, get_or, take, drop, is_some, Some, None, Option, sym, refl, ap, ◌∙◌, arith, length-drop}
 use Rattle.std.proofs.lemmas.List.{ext_get_or, get_or-drop, get_or-take, length-take-le}
 use Rattle.std.proofs.lemmas.Bool.{cond-true}
 use Rattle.costs.specs.Kind.{Kind, Laws}
@@ -9,7 +9,7 @@ use Rattle.tables.specs.declared.grade.Grade.TheVariants.{Closed, Open}
 use Rattle.judge.specs.Allowed.{is_open, cost_of, allowed, cost}
 use Rattle.judge.specs.Grades.{event_price, renumbering_grade}
 use Rattle.judge.specs.Prices.{Bounded, Certified}
-use Rattle.judge.specs.Rows.{Agree, AgreePast, listed, listed_cost, or_none}
+use Rattle.judge.specs.Rows.{AgreePast, listed, listed_cost, or_none}
 use Rattle.judge.specs.Seating.{Seating}
 use Rattle.judge.specs.Settling.{Seated, seat_in, holder_in}
 use Rattle.judge.specs.declared.settling.Seats.{Seats}

@@ -46,3 +46,11 @@ graded_first t s ys rest size whole grid r c rin cin =
     get_or_append_left ys rest Closed ((r - 1) * s + (c - 1)) (omega (arith, mul-add-lt (r - 1) s (c - 1) s (omega (arith, rin)) (omega (arith, cin))))
     ∙ ap (λ (z : ℕ). get_or ys ((r - 1) * z + (c - 1)) Closed) size
     ∙ grid r c (subst (λ (z : ℕ). Within z r) size rin) (subst (λ (z : ℕ). Within z c) size cin)
+
+-- the same, of the part of the list that the grid is written to
+pub graded_front : {C : Type 0} (t : Table C) (s : ℕ) (xs ys rest : List (Grade C)) → s ≡ t.size → s * s ≤ length xs → length ys ≡ length (between 0 (s * s) xs)
+    → (length (between 0 (s * s) xs) ≡ t.size * t.size → GridOf t ys) → (r c : ℕ) → Within s r → Within s c → grade_in (ys ++ rest) s r c ≡ pair_at t r c
+graded_front t s xs ys rest size inside same grid =
+    let part = length-between xs 0 (s * s) inside in
+    let given : length (between 0 (s * s) xs) ≡ t.size * t.size = part ∙ omega arith ∙ ap (λ (n : ℕ). n * n) size in
+    graded_first t s ys rest size (omega (arith, same, part)) (grid given)

@@ -1,6 +1,6 @@
 -- What a certificate or a marked set tells of the verdict.
-use Rattle.std.proofs.Common.{◌≡◌, ℕ, ◌≤◌, Bool, true, false, cond, List, length, take, drop, sym, refl, ap, ◌∙◌, subst, arith}
-use Rattle.std.proofs.lemmas.Bool.{cond-true, cond-false, false≢true}
+use Rattle.std.proofs.Common.{◌≡◌, ℕ, true, false, cond, List, take, drop, sym, refl, ap, ◌∙◌, subst}
+use Rattle.std.proofs.lemmas.Bool.{false≢true}
 use Rattle.costs.specs.Kind.{Kind, Laws, AtMost}
 use Rattle.costs.specs.Sums.{sum_of}
 use Rattle.tables.specs.Table.{Table, Sound, pair_at}
@@ -9,8 +9,7 @@ use Rattle.judge.specs.Allowed.{allowed, cost}
 use Rattle.judge.specs.Prices.{Cheapest, Certified}
 use Rattle.judge.specs.Marks.{Violator}
 use Rattle.judge.specs.Least.{judged}
-use Rattle.judge.specs.Judging.{Lists, price_at, Found, Blocked, is_inside, is_never, Affordable, Possible, Exact}
-use Rattle.judge.specs.declared.verdict.Verdict.{Verdict}
+use Rattle.judge.specs.Judging.{Lists, price_at, Found, Possible, Exact}
 use Rattle.judge.specs.declared.verdict.Verdict.TheVariants.{Within as Inside, Over, None as Never}
 use Rattle.judge.proofs.Bounds.{sound_bounded, sound_size}
 use Rattle.judge.proofs.Duality.{duality}

@@ -1,11 +1,10 @@
 -- The verdict on a window, from the grades that were read of its table.
-use Rattle.std.proofs.Common.{◌≡◌, ℕ, ◌-◌, ◌<◌, ◌≤◌, Bool, true, false, cond, ◌⊎◌, List, length, get_or, take, drop, sym, refl, ap, ◌∙◌, subst, arith}
+use Rattle.std.proofs.Common.{◌≡◌, ℕ, ◌-◌, true, false, List, take, drop, sym, ap, ◌∙◌, subst, arith}
 use Rattle.std.proofs.lemmas.Bool.{cond-true, cond-false}
 use Rattle.costs.specs.Kind.{Kind, Laws}
 use Rattle.tables.specs.Table.{Table, Within, Sound, pair_at}
 use Rattle.tables.specs.declared.grade.Grade.{Grade}
-use Rattle.judge.specs.Renumbering.{Renumbering}
-use Rattle.judge.specs.Allowed.{allowed, cost}
+use Rattle.judge.specs.Allowed.{cost}
 use Rattle.judge.specs.BitRows.{open_in, stands_in, Agrees}
 use Rattle.judge.specs.Judging.{Lists, price_at, Found, Blocked, Exact}
 use Rattle.judge.specs.Least.{judged}

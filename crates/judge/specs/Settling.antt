@@ -1,5 +1,5 @@
 -- What settling starts from and ends with.
-use Rattle.std.specs.Prelude.{◌≡◌, ℕ, zero, suc, ◌+◌, ◌-◌, ◌*◌, ◌<◌, ◌≤◌, Bool, true, false, cond, List, length, Some, None, Option, ◌==◌, ◌≢◌, slice_index_or, slice_set}
+use Rattle.std.specs.Prelude.{◌≡◌, ℕ, zero, suc, ◌-◌, ◌<◌, ◌≤◌, Bool, true, false, cond, List, length, Some, None, Option, ◌==◌, ◌≢◌, slice_index_or, slice_set}
 use Rattle.costs.specs.Kind.{Kind}
 use Rattle.tables.specs.Table.{Within}
 use Rattle.tables.specs.declared.grade.Grade.{Grade}

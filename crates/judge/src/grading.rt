@@ -26,8 +26,18 @@ pub(crate) fn grade_pairs<T: TraceTable>(
     ensures rows { (r c : ℕ) → Within size r → Within size c → open_in result r c ≡ is_open (pair_at (T.TraceTable.means table.now) r c) }
     ensures small { (r : ℕ) → r < size → slice_index result r < 2 ^ size }
 {
-    table.grid(&mut grades[0..size * size]);
+    read_pairs(table, size, grades);
     open_rows(grades, size)
+}
+
+// Reads the grades of all pairs.
+#[tactic(auto, using(crate::proofs::GradedPairs::graded_front))]
+fn read_pairs<T: TraceTable>(table: &T, size: usize, grades: &mut [Grade<T::Value>])
+    requires size { size ≡ (T.TraceTable.means table.now).size }
+    requires grid { Grid grades.old size }
+    ensures { (r c : ℕ) → Within size r → Within size c → grade_in grades.new size r c ≡ pair_at (T.TraceTable.means table.now) r c }
+{
+    table.grid(&mut grades[0..size * size]);
 }
 
 // The open numbers of each event, by the grades of all pairs.

@@ -1,5 +1,5 @@
 -- Feeding a log in two stretches.
-use Rattle.std.proofs.Common.{◌≡◌, ℕ, zero, suc, ◌+◌, ◌≤◌, Bool, true, false, cond, List, [], ◌∷◌, ◌++◌, length, take, drop, Some, None, Option, sym, refl, ap, ◌∙◌, suc-add, zero-add, arith}
+use Rattle.std.proofs.Common.{◌≡◌, ℕ, zero, suc, ◌+◌, Bool, true, false, cond, List, [], ◌∷◌, take, drop, Some, None, sym, refl, ap, ◌∙◌, suc-add, zero-add, arith}
 use Rattle.tables.specs.Table.{within}
 use Rattle.watch.specs.Ledger.{Ledger, after_feed}
 use Rattle.watch.specs.Walking.{after_feeds, first_outside}

@@ -1,5 +1,5 @@
 -- The lists after a walk that found a hit hold a least renumbering of its window.
-use Rattle.std.proofs.Common.{◌≡◌, ℕ, suc, ◌+◌, List, [], ◌∷◌, ◌++◌, take, Some, None, Option, sym, refl, ap, ◌∙◌, subst, arith}
+use Rattle.std.proofs.Common.{◌≡◌, ℕ, suc, ◌+◌, List, [], ◌∷◌, take, Some, sym, subst, arith}
 use Rattle.costs.specs.Kind.{Kind}
 use Rattle.judge.specs.Judging.{Lists, Found}
 use Rattle.watch.specs.Ledger.{Ledger, standing, after_feed}

@@ -1,9 +1,9 @@
 -- A report of the first events of a log.
-use Rattle.std.proofs.Common.{◌≡◌, ℕ, suc, ◌+◌, ◌-◌, ◌<◌, ◌≤◌, Bool, true, List, [], ◌∷◌, ◌++◌, map, length, take, drop, Some, None, Option, sym, refl, ap, ◌∙◌, subst, append_assoc, append-nil, arith, length-drop, drop-drop}
+use Rattle.std.proofs.Common.{◌≡◌, ℕ, ◌+◌, ◌≤◌, List, [], ◌++◌, map, length, take, drop, None, sym, refl, ap, ◌∙◌, append_assoc, append-nil, arith, length-drop, drop-drop}
 use Rattle.std.specs.List.{AllByRecursion as All}
 use Rattle.std.proofs.lemmas.List.{drop_all}
 use Rattle.costs.specs.Kind.{Kind}
-use Rattle.watch.specs.Ledger.{Ledger, after_feed}
+use Rattle.watch.specs.Ledger.{Ledger}
 use Rattle.watch.specs.Walking.{walk, after_feeds, first_outside}
 use Rattle.watch.specs.declared.walk.Next.{Next}
 use Rattle.watch.specs.declared.walk.Outcome.{Outcome}

@@ -1,12 +1,12 @@
 -- What one walk to the next hit tells of all outcomes.
-use Rattle.std.proofs.Common.{◌≡◌, ℕ, zero, suc, ◌+◌, ◌<◌, ◌≤◌, Bool, true, false, cond, List, [], ◌∷◌, ◌++◌, length, take, drop, Some, None, Option, sym, refl, ap, ◌∙◌, subst, add-one, arith}
+use Rattle.std.proofs.Common.{◌≡◌, ℕ, suc, ◌+◌, ◌<◌, ◌≤◌, List, [], ◌∷◌, ◌++◌, length, take, drop, Some, Option, refl, ap, ◌∙◌, arith}
 use Rattle.costs.specs.Kind.{Kind}
 use Rattle.watch.specs.Ledger.{Ledger, after_feed}
 use Rattle.watch.specs.Walking.{outcome, onward, walk, after_feeds}
 use Rattle.watch.specs.declared.walk.Next.{Next}
 use Rattle.watch.specs.declared.walk.Outcome.{Outcome}
 use Rattle.watch.specs.declared.walk.Outcome.TheVariants.{NotFull, Hit, Miss, Blocked}
-use Rattle.report.specs.Outcomes.{outcomes_from, add_hit, hits_in, add_count, tally}
+use Rattle.report.specs.Outcomes.{outcomes_from, hits_in, add_count, tally}
 use Rattle.report.specs.Reports.{listed_hit}
 
 -- the counts of two stretches together

@@ -1,5 +1,5 @@
 -- The rows of all events in one list: row by row, and while a window is walked over once.
-use Rattle.std.proofs.Common.{◌≡◌, ℕ, ◌+◌, ◌-◌, ◌*◌, ◌<◌, ◌≤◌, ◌⊎◌, List, ◌++◌, length, get_or, take, drop, sym, ap, ◌∙◌, subst, inl, inr, arith}
+use Rattle.std.proofs.Common.{◌≡◌, ℕ, ◌+◌, ◌-◌, ◌*◌, ◌<◌, ◌≤◌, List, ◌++◌, length, get_or, take, drop, sym, ap, ◌∙◌, inl, inr, arith}
 use borrow.Rule.Slice.PartMut.{put_mid, post_of}
 use Rattle.std.specs.List.{between}
 use Rattle.std.proofs.lemmas.Nat.{mul-add-lt}
@@ -13,7 +13,7 @@ use Rattle.tables.specs.Rows.{Started, Placed}
 use Rattle.tables.specs.Summing.{add_grade, graded, summing}
 use Rattle.tables.specs.Table.{Table, Within, pair_at, row_at, GridOf}
 use Rattle.tables.specs.declared.grade.Grade.{Grade}
-use Rattle.tables.specs.declared.grade.Grade.TheVariants.{Closed, Open}
+use Rattle.tables.specs.declared.grade.Grade.TheVariants.{Closed}
 use Rattle.tables.specs.Graded.{graded_none, graded_skip, graded_add}
 use Rattle.tables.proofs.Rows.{row_length, row_place}
 use Rattle.tables.proofs.Walk.{pair_inside}

@@ -1,13 +1,13 @@
 -- Pins that are kept in a list, when one place is written, and the rows under them.
-use Rattle.std.proofs.Common.{◌≡◌, ℕ, zero, suc, ◌+◌, ◌<◌, ◌≤◌, Bool, true, false, cond, ◌&&◌, ◌||◌, eqb, List, length, get_or, set, replicate, is_some, is_ok, Some, None, Ok, Err, Option, Result, sym, refl, ap, ◌∙◌, ⊎_elim, add-one, arith, length-set, get_or-set_other, get_or-set_same}
+use Rattle.std.proofs.Common.{◌≡◌, ℕ, zero, suc, ◌+◌, ◌<◌, Bool, true, false, cond, ◌&&◌, ◌||◌, eqb, List, length, get_or, set, replicate, is_some, is_ok, Some, None, Ok, Option, sym, refl, ap, ◌∙◌, ⊎_elim, add-one, arith, length-set, get_or-set_other, get_or-set_same}
 use mathlib.Core.Path.{fun_ext}
 use Rattle.std.proofs.lemmas.Bool.{eqb-true, eqb-false, eq-eqb, ne_eqb, cases_lt, cond-true, cond-false, and_from}
 use Rattle.tables.specs.Pins.{pins_in, no_pins, repin, under_pin, pinned, pins_to, is_taken, pin_answer, after_pin, unpin_answer, after_unpin, pin_at}
 use Rattle.tables.specs.Rows.{PinnedRow}
 use Rattle.tables.specs.Table.{Table, within, pair_at, row_at}
 use Rattle.tables.specs.declared.grade.Grade.{Grade}
-use Rattle.tables.specs.declared.grade.Grade.TheVariants.{Closed, Open}
-use Rattle.tables.proofs.Rows.{Filled, row_is, row_length, row_place, outside_event}
+use Rattle.tables.specs.declared.grade.Grade.TheVariants.{Closed}
+use Rattle.tables.proofs.Rows.{row_is, row_length, row_place, outside_event}
 
 pins_set_by : (xs : List (Option ℕ)) (r e : ℕ) (p : Option ℕ) (b : Bool) → eqb e r ≡ b → r < length xs → get_or (set xs r p) e None ≡ cond b p (get_or xs e None)
 pins_set_by xs r e p true q h = rw (eqb-true e r q) (get_or-set_same xs r p None h)

@@ -1,5 +1,5 @@
 -- A row of grades while a window is walked over, from its last place to its first.
-use Rattle.std.proofs.Common.{◌≡◌, ℕ, ◌+◌, ◌-◌, ◌<◌, ◌≤◌, true, false, List, [], length, get_or, drop, sym, refl, ap, ◌∙◌, ⊎_elim, arith}
+use Rattle.std.proofs.Common.{◌≡◌, ℕ, ◌+◌, ◌-◌, ◌<◌, ◌≤◌, true, false, List, length, get_or, drop, sym, ap, ◌∙◌, ⊎_elim, arith}
 use Rattle.std.proofs.lemmas.List.{drop_all}
 use Rattle.std.proofs.lemmas.Bool.{and_from, cases_lt, cond-true}
 use Rattle.std.proofs.lemmas.Bool.Decides.{nat_tests}
@@ -8,9 +8,9 @@ use Rattle.tables.specs.Rows.{Started, Placed}
 use Rattle.tables.specs.Summing.{add_grade, graded, summing}
 use Rattle.tables.specs.Table.{Table, within, pair_at, row_at}
 use Rattle.tables.specs.declared.grade.Grade.{Grade}
-use Rattle.tables.specs.declared.grade.Grade.TheVariants.{Closed, Open}
+use Rattle.tables.specs.declared.grade.Grade.TheVariants.{Closed}
 use Rattle.tables.specs.Graded.{graded_none, graded_skip, graded_add}
-use Rattle.tables.proofs.Rows.{Filled, row_is, outside_event, outside_number}
+use Rattle.tables.proofs.Rows.{row_is, outside_event, outside_number}
 
 -- a pair with both inside 1 to S
 pub pair_inside : {C : Type 0} (t : Table C) (r c : ℕ) → within t.size r ≡ true → within t.size c ≡ true → pair_at t r c ≡ t.pairing t.window r c

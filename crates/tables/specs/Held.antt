@@ -1,16 +1,15 @@
 -- What a summing table holds: as many trace numbers as places, and events that are 1 to S.
-use Rattle.std.specs.Prelude.{◌≡◌, ℕ, ◌-◌, ◌*◌, ◌<◌, ◌≤◌, true, List, [], ◌∷◌, ◌++◌, length, take, slice_index}
-use Rattle.std.proofs.Common.{sym, ◌∙◌, ap, arith}
+use Rattle.std.specs.Prelude.{◌≡◌, ℕ, ◌-◌, ◌*◌, ◌<◌, ◌≤◌, true, [], ◌∷◌, ◌++◌, length, take, slice_index}
+use Rattle.std.proofs.Common.{arith}
 use Rattle.std.specs.List.{AllByRecursion as All}
 use Rattle.std.proofs.ByRecursion.{All-from_get_or, All-get_or, All-push, All-drop}
 use Rattle.std.proofs.lemmas.List.{get_or-take, length-take-le}
 use Rattle.std.proofs.lemmas.Bool.Decides.{nat_tests}
 use Rattle.costs.specs.Kind.{Kind, Laws}
-use Rattle.tables.specs.Limits.{max_size, max_places, pair_limit}
+use Rattle.tables.specs.Limits.{max_size, pair_limit}
 use Rattle.tables.specs.Ring.{ring_events}
 use Rattle.tables.specs.Summed.{summed_table}
-use Rattle.tables.specs.Summing.{graded}
-use Rattle.tables.specs.Table.{Table, Within, within, Spans, Sound, last}
+use Rattle.tables.specs.Table.{Within, within, Spans, Sound, last}
 use Rattle.tables.specs.declared.grade.Grade.{Grade}
 use Rattle.tables.specs.declared.ring.Ring.{Ring}
 use Rattle.tables.specs.declared.summed.Summed.{Summed}

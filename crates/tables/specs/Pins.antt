@@ -1,5 +1,5 @@
 -- Pins: the number that each event is pinned to, if any, and what a table means under them.
-use Rattle.std.specs.Prelude.{ℕ, zero, suc, Bool, true, false, cond, ◌&&◌, ◌||◌, List, is_some, is_ok, Some, None, Ok, Err, Option, Result, ◌==◌, slice_index_or}
+use Rattle.std.specs.Prelude.{ℕ, zero, suc, Bool, false, cond, ◌&&◌, ◌||◌, List, is_some, is_ok, Some, None, Ok, Err, Option, Result, ◌==◌, slice_index_or}
 use Rattle.tables.specs.Table.{Table, within}
 use Rattle.tables.specs.declared.grade.Grade.{Grade}
 use Rattle.tables.specs.declared.grade.Grade.TheVariants.{Closed}

@@ -1,5 +1,5 @@
 -- What a judge of lists with room leads to.
-use Rattle.std.proofs.Common.{◌≡◌, ℕ, ◌*◌, ◌≤◌, Bool, true, false, cond, ◌&&◌, leb, List, [], ◌∷◌, length, Ok, Err, Result, sym, refl, ap, ◌∙◌, subst, arith}
+use Rattle.std.proofs.Common.{◌≡◌, ℕ, Bool, true, false, cond, leb, List, [], ◌∷◌, length, Ok, Err, Result, refl, ap, ◌∙◌, arith}
 use Rattle.std.proofs.lemmas.Bool.Decides.{nat_tests}
 use Rattle.costs.specs.Kind.{Kind}
 use Rattle.tables.specs.Table.{pair_at}
@@ -9,7 +9,6 @@ use Rattle.judge.specs.declared.verdict.Verdict.{Verdict}
 use Rattle.judge.specs.declared.verdict.Verdict.TheVariants.{Within as Inside, Over, None as Never}
 use Rattle.watch.specs.Ledger.{Ledger, standing}
 use Rattle.watch.specs.Walking.{led_to, outcome, LeftBy}
-use Rattle.watch.specs.declared.walk.Outcome.{Outcome}
 use Rattle.watch.specs.declared.walk.Outcome.TheVariants.{NotFull, Hit, Miss}
 
 -- a verdict is known by its number and values

@@ -2,7 +2,7 @@
 use Rattle.std.proofs.Common.{◌≡◌, ℕ, ◌+◌, ◌<◌, ◌≤◌, Bool, true, false, cond, List, [], ◌∷◌, ◌++◌, length, get_or, take, drop, Some, None, sym, refl, ap, ◌∙◌, subst, add-one, arith, drop-cons}
 use Rattle.std.proofs.lemmas.List.{take_more, drop_all}
 use Rattle.costs.specs.Kind.{Kind}
-use Rattle.tables.specs.Table.{Table, within, taken, with_window, last}
+use Rattle.tables.specs.Table.{within, with_window, last}
 use Rattle.watch.specs.Ledger.{Ledger, after_feed}
 use Rattle.judge.specs.Judging.{Lists, Room}
 use Rattle.watch.specs.Walking.{outcome, onward, walk, after_feeds, LeftBy, EndsOr, Walked}

@@ -1,5 +1,5 @@
 -- A whole list of calls on one watch: each answer is right by the ledger that the calls before it leave.
-use Rattle.std.specs.Prelude.{◌≡◌, true, false, List, [], ◌∷◌, Ok, Err}
+use Rattle.std.specs.Prelude.{◌≡◌, true, false, List, [], ◌∷◌, Ok}
 use Rattle.costs.specs.Kind.{Kind}
 use Rattle.tables.specs.Table.{Table}
 use Rattle.tables.specs.Refusals.{refusal_number}

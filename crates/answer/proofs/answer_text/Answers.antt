@@ -1,5 +1,4 @@
-use Rattle.std.proofs.Common.{◌≡◌, Ok, string_bytes, Result, sym, refl, ap, ◌∙◌, subst}
-use Rattle.job.specs.Answers.{content_of}
+use Rattle.std.proofs.Common.{Result, sym, subst}
 use Rattle.job.specs.Content.{Content}
 use Rattle.job.specs.Faults.{Finding}
 use Rattle.answer.specs.Answers.{AnswerTo}

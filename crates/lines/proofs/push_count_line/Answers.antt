@@ -1,4 +1,4 @@
-use Rattle.std.proofs.Common.{[], map, string_bytes, decimal, sym, refl}
+use Rattle.std.proofs.Common.{[], map, string_bytes, decimal, sym}
 use Rattle.std.proofs.lemmas.List.{append-nil}
 use Rattle.lines.proofs.Spaced.{line_grown}
 use Rattle.lines.proofs.push_count_line.Goals as goal

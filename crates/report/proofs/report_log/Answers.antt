@@ -1,6 +1,6 @@
 use Rattle.std.proofs.Common.{ℕ, ◌+◌, ◌<◌, ◌≤◌, List, length, take, vec_items, sym, ap, ◌∙◌, subst, arith, rules}
 use Rattle.std.proofs.lemmas.Result.{err_from_is_err_and}
-use Rattle.judge.specs.Sheets.{sheet_lists, lengths}
+use Rattle.judge.specs.Sheets.{sheet_lists}
 use Rattle.watch.specs.Meaning.{ledger_of}
 use Rattle.report.specs.Reports.{Reported, Kept}
 use Rattle.report.specs.declared.Hit.{Hit}

@@ -1,8 +1,8 @@
-use Rattle.std.proofs.Common.{◌≡◌, ℕ, List, ◌∷◌, ◌++◌, map, take, vec_items, string_bytes, decimal, sym, ap, ◌∙◌, take_all}
+use Rattle.std.proofs.Common.{List, ◌∷◌, ◌++◌, map, string_bytes, decimal, ap, ◌∙◌, take_all}
 use Rattle.std.specs.Fmt.{signed_decimal}
 use Rattle.lines.specs.Lines.{line}
 use Rattle.report.specs.declared.Hit.{Hit}
-use Rattle.answer.specs.Lines.{hit_bytes, hits_bytes}
+use Rattle.answer.specs.Lines.{hits_bytes}
 use Rattle.answer.proofs.Hits.{one_more_hit, begins_at}
 use Rattle.answer.proofs.report_text.push_hits.Goals as goal
 

@@ -1,4 +1,4 @@
-use Rattle.std.proofs.Common.{◌≡◌, ℕ, ◌+◌, List, [], ◌∷◌, ◌++◌, vec_items, string_bytes, codes, decimal, sym, refl, ap, ◌∙◌, append_assoc}
+use Rattle.std.proofs.Common.{◌≡◌, ℕ, ◌+◌, List, [], ◌∷◌, ◌++◌, vec_items, string_bytes, codes, decimal, ap, ◌∙◌, append_assoc}
 use Rattle.lines.specs.Lines.{line}
 use Rattle.answer.specs.Lines.{hits_bytes}
 use Rattle.answer.proofs.report_text.report_text.Goals as goal

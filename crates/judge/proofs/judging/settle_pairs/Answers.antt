@@ -1,8 +1,7 @@
-use Rattle.std.proofs.Common.{◌≡◌, ◌≤◌, length, take, sym, ◌∙◌, arith, rules}
+use Rattle.std.proofs.Common.{◌≡◌, ◌≤◌, length, take, ◌∙◌, rules}
 use Rattle.judge.specs.Grades.{grade_in}
-use Rattle.judge.specs.Prices.{Certified}
 use Rattle.judge.specs.Rows.{listed_cost}
-use Rattle.judge.proofs.Certificates.{same_beyond, each_seated, numbers_within, numbers_open, certificate, renumbering_open, open_same, never_closed}
+use Rattle.judge.proofs.Certificates.{same_beyond, numbers_within, numbers_open, certificate, renumbering_open, open_same, never_closed}
 use Rattle.judge.proofs.judging.settle_pairs.Goals as goal
 
 pub write_event_prices-requires : goal.write_event_prices-requires

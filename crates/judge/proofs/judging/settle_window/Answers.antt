@@ -1,5 +1,5 @@
-use Rattle.std.proofs.Common.{◌≡◌, ◌*◌, ◌≤◌, true, false, length, sym, refl, arith, rules}
-use Rattle.judge.specs.Grades.{Grid, grade_in}
+use Rattle.std.proofs.Common.{◌≡◌, true, false, length, sym, refl, arith, rules}
+use Rattle.judge.specs.Grades.{grade_in}
 use Rattle.judge.specs.Judging.{lists}
 use Rattle.judge.proofs.Windows.{solvable, window_found, window_within, window_over, within_exact, over_exact, window_blocked, window_none, none_exact}
 use Rattle.judge.proofs.judging.settle_window.Goals as goal

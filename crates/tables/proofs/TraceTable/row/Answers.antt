@@ -1,4 +1,4 @@
-use Rattle.std.proofs.Common.{◌≡◌, ◌+◌, ◌<◌, length, sym, ◌∙◌, arith}
+use Rattle.std.proofs.Common.{◌≡◌, ◌+◌, length, sym, ◌∙◌, arith}
 use Rattle.tables.specs.Table.{pair_at}
 use Rattle.tables.specs.declared.grade.Grade.TheVariants.{Closed}
 use Rattle.tables.proofs.Rows.{filled_more, row_is, outside_number}

@@ -1,4 +1,4 @@
-use Rattle.std.proofs.Common.{◌≡◌, length, sym, arith}
+use Rattle.std.proofs.Common.{◌≡◌, length, arith}
 use Rattle.tables.proofs.Pinned.{pinned_none, pinned_more, pinned_own}
 use Rattle.tables.proofs.pins.close_others.Goals as goal
 use Rattle.tables.proofs.pins.close_others.Goals.{then-c-number, else-c-number}

@@ -1,4 +1,4 @@
-use Rattle.std.proofs.Common.{◌≡◌, ◌+◌, ◌||◌, ap, ◌∙◌}
+use Rattle.std.proofs.Common.{◌+◌, ◌||◌, ap, ◌∙◌}
 use Rattle.tables.specs.Pins.{pins_in, pins_to}
 use Rattle.tables.proofs.Pinned.{taken_more}
 use Rattle.tables.proofs.pins.is_number_taken.Goals as goal

@@ -1,8 +1,8 @@
-use Rattle.std.proofs.Common.{◌≡◌, length, sym, ap, ◌∙◌, subst}
+use Rattle.std.proofs.Common.{length, sym, ap, ◌∙◌, subst}
 use Rattle.judge.specs.Judging.{lists}
-use Rattle.watch.specs.Ledger.{Ledger, after_feed}
+use Rattle.watch.specs.Ledger.{Ledger}
 use Rattle.watch.specs.Meaning.{ledger_of}
-use Rattle.watch.specs.Walking.{led_to, outcome, LeftBy}
+use Rattle.watch.specs.Walking.{outcome, LeftBy}
 use Rattle.watch.specs.declared.walk.Outcome.{Outcome}
 use Rattle.watch.proofs.Outcomes.{ok_outcome, ok_left}
 use Rattle.watch.proofs.Walks.{room_stays}

@@ -1,4 +1,4 @@
-use Rattle.std.proofs.Common.{◌≡◌, ℕ, List, take, Some, None, Ok, sym, refl, ap, ◌∙◌, subst, arith}
+use Rattle.std.proofs.Common.{ℕ, List, take, Some, None, Ok, sym, refl, ap, ◌∙◌, subst, arith}
 use Rattle.judge.specs.Judging.{lists}
 use Rattle.watch.specs.Meaning.{ledger_of}
 use Rattle.watch.specs.Walking.{walk, after_feeds, Walked}

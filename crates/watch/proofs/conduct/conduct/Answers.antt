@@ -1,8 +1,8 @@
-use Rattle.std.proofs.Common.{◌≡◌, List, [], ◌∷◌, ◌++◌, vec_items, sym, ap, ◌∙◌, subst, rules}
+use Rattle.std.proofs.Common.{vec_items, sym, ap, ◌∙◌, subst}
 use Rattle.watch.specs.Calls.{step, steps}
 use Rattle.watch.specs.Ledger.{Ledger}
 use Rattle.watch.specs.Meaning.{ledger_of}
-use Rattle.watch.specs.Run.{Right, Run}
+use Rattle.watch.specs.Run.{Right}
 use Rattle.watch.proofs.Runs.{steps_push, run_push, opens_at, all_came}
 use Rattle.watch.proofs.conduct.conduct.Goals as goal
 

@@ -1,4 +1,4 @@
-use Rattle.std.proofs.Common.{◌≡◌, ◌-◌, ◌≤◌, length, drop, refl, arith, length-drop, take_all}
+use Rattle.std.proofs.Common.{◌-◌, length, drop, arith, length-drop, take_all}
 use Rattle.watch.proofs.walk.events_from.Goals as goal
 
 pub returns : goal.returns

@@ -1,5 +1,4 @@
-use Rattle.std.proofs.Common.{map, string_bytes, ◌∙◌}
-use Rattle.std.specs.Fmt.{signed_decimal}
+use Rattle.std.proofs.Common.{string_bytes}
 use Rattle.lines.proofs.Spaced.{both_grown}
 use Rattle.lines.proofs.printed.PairPrinted.push_parts.Goals as goal
 

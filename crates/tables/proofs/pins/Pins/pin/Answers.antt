@@ -1,5 +1,4 @@
-use Rattle.std.proofs.Common.{◌≡◌, ◌<◌, ◌≤◌, true, false, length, is_some, Some, sym, ap, ◌∙◌, arith, rules}
-use Rattle.std.proofs.lemmas.Bool.Decides.{nat_tests}
+use Rattle.std.proofs.Common.{◌≡◌, ◌<◌, ◌≤◌, true, false, length, is_some, Some, sym, ap, ◌∙◌, rules}
 use Rattle.tables.specs.Limits.{max_size}
 use Rattle.tables.specs.Pins.{pins_in, is_taken}
 use Rattle.tables.specs.Table.{within}

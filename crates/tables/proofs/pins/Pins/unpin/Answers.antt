@@ -1,5 +1,4 @@
-use Rattle.std.proofs.Common.{◌≡◌, ◌<◌, ◌≤◌, true, length, is_some, None, sym, ap, ◌∙◌, arith, rules}
-use Rattle.std.proofs.lemmas.Bool.Decides.{nat_tests}
+use Rattle.std.proofs.Common.{◌≡◌, ◌<◌, ◌≤◌, true, length, is_some, None, sym, ap, ◌∙◌, rules}
 use Rattle.tables.specs.Limits.{max_size}
 use Rattle.tables.specs.Pins.{pins_in}
 use Rattle.tables.specs.Table.{within}

@@ -1,4 +1,4 @@
-use Rattle.std.proofs.Common.{◌≡◌, length, sym}
+use Rattle.std.proofs.Common.{length, sym}
 use Rattle.tables.specs.Pins.{pins_in}
 use Rattle.tables.proofs.Pinned.{row_free, row_pinned}
 use Rattle.tables.proofs.pins.PinsTraceTable.row.Goals as goal

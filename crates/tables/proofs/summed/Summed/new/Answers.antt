@@ -1,4 +1,4 @@
-use Rattle.std.proofs.Common.{◌≡◌, ◌<◌, ◌≤◌, true, length, sym, ap, arith}
+use Rattle.std.proofs.Common.{◌≡◌, true, length, sym, ap, arith}
 use Rattle.std.proofs.lemmas.Bool.Decides.{nat_tests}
 use Rattle.tables.specs.Limits.{max_size}
 use Rattle.tables.specs.Ring.{ring_events}

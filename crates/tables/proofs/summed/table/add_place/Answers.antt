@@ -1,4 +1,3 @@
-use Rattle.std.proofs.Common.{arith}
 use Rattle.tables.proofs.Rows.{placed_none, placed_more, placed_past}
 use Rattle.tables.proofs.summed.table.add_place.Goals as goal
 use Rattle.tables.proofs.summed.table.add_place.Goals.{then-c-row, else-c-row}

@@ -1,4 +1,4 @@
-use Rattle.std.proofs.Common.{◌≡◌, ◌+◌, ◌-◌, ◌*◌, ◌<◌, ◌≤◌, length, take, sym, refl, ◌∙◌, arith, rules}
+use Rattle.std.proofs.Common.{◌≡◌, ◌+◌, ◌-◌, ◌*◌, ◌<◌, ◌≤◌, length, take, sym, refl, arith, rules}
 use Rattle.std.proofs.lemmas.Nat.{mul-add-lt}
 use Rattle.tables.specs.Ring.{ring_events}
 use Rattle.tables.specs.Table.{Within}

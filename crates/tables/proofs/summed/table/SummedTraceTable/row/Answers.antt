@@ -1,9 +1,8 @@
-use Rattle.std.proofs.Common.{◌≡◌, ℕ, ◌-◌, ◌<◌, ◌≤◌, length, take, sym, ap, ◌∙◌, arith}
+use Rattle.std.proofs.Common.{◌≡◌, ◌-◌, ◌<◌, ◌≤◌, length, take, sym, ◌∙◌, arith}
 use Rattle.tables.specs.Ring.{ring_events}
-use Rattle.tables.specs.Rows.{Started, Placed}
 use Rattle.tables.specs.Summed.{summed_table}
 use Rattle.tables.specs.Held.{few, few_events, number_at}
-use Rattle.tables.proofs.Walk.{SummedFrom, walk_begins, walk_skips, walk_adds, walk_ends, row_closed}
+use Rattle.tables.proofs.Walk.{walk_begins, walk_skips, walk_adds, walk_ends, row_closed}
 use Rattle.tables.proofs.summed.table.SummedTraceTable.row.Goals as goal
 
 pub returns-then-not-is_within : goal.returns-then-not-is_within

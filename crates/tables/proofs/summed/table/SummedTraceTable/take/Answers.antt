@@ -1,4 +1,4 @@
-use Rattle.std.proofs.Common.{◌≡◌, ◌<◌, sym, arith}
+use Rattle.std.proofs.Common.{sym, arith}
 use Rattle.tables.specs.Held.{events_kept}
 use Rattle.tables.proofs.summed.table.SummedTraceTable.take.Goals as goal
 
