@@ -1,6 +1,6 @@
 -- What the calls look at holds of a job that was accepted.
 use Rattle.std.proofs.Common.{◌≡◌, ℕ, ◌+◌, true, ◌&&◌, List, [], ◌∷◌, length, None, refl, arith}
-use Rattle.std.specs.List.{AllByRecursion as All}
+use Rattle.std.specs.List.{AllByRecursion}
 use Rattle.std.proofs.lemmas.Bool.Decides.{nat_tests}
 use Rattle.tables.specs.Limits.{max_size, max_places}
 use Rattle.tables.specs.Summing.{all_within}
@@ -12,12 +12,12 @@ use Rattle.job.specs.Spelling.{Valid}
 within_true : (s n : ℕ) → Within s n → within s n ≡ true
 within_true s n h = grind (arith, nat_tests)
 
-pub all_within_true : (s : ℕ) (ns : List ℕ) → All (Within s) ns → all_within s ns ≡ true
+pub all_within_true : (s : ℕ) (ns : List ℕ) → AllByRecursion (Within s) ns → all_within s ns ≡ true
 all_within_true s [] all = refl
 all_within_true s (n ∷ ns) all = rw (within_true s n all.0, all_within_true s ns all.1) refl
 
 -- no event is outside
-pub none_outside : (s p : ℕ) (es : List ℕ) → All (Within s) es → first_outside s p es ≡ None
+pub none_outside : (s p : ℕ) (es : List ℕ) → AllByRecursion (Within s) es → first_outside s p es ≡ None
 none_outside s p [] all = refl
 none_outside s p (e ∷ es) all = rw (within_true s e all.0) (none_outside s (p + 1) es all.1)
 

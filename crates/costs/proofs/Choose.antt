@@ -1,6 +1,6 @@
 -- Lists with no two entries the same, inside other lists.
 use Rattle.std.proofs.Common.{◌≡◌, suc, ◌≤◌, List, [], ◌∷◌, length, sym, refl, ap, ◌∙◌, inl, inr, arith}
-use Rattle.std.specs.List.{AllByRecursion as All}
+use Rattle.std.specs.List.{AllByRecursion}
 use Rattle.costs.specs.Lists.{In, Apart}
 
 module _ {X : Type 0} where
@@ -22,12 +22,12 @@ module _ {X : Type 0} where
   in_out c d (x ∷ xs) (inr h) n (inl m) = inl m
   in_out c d (x ∷ xs) (inr h) n (inr m) = inr (in_out c d xs h n m)
 
-  pub sub_out : (c : X) (ys : List X) (h : In c ys) (xs : List X) → (In c xs → ⊥) → All (λ x. In x ys) xs → All (λ x. In x (out c ys h)) xs
+  pub sub_out : (c : X) (ys : List X) (h : In c ys) (xs : List X) → (In c xs → ⊥) → AllByRecursion (λ x. In x ys) xs → AllByRecursion (λ x. In x (out c ys h)) xs
   sub_out c ys h [] n s = tt
   sub_out c ys h (x ∷ xs) n s = (in_out c x ys h (λ e. n (inl (sym e))) s.0, sub_out c ys h xs (λ m. n (inr m)) s.1)
 
   -- more entries than places cannot all differ
-  pub pigeons : (xs ys : List X) → Apart xs → All (λ x. In x ys) xs → length xs ≤ length ys
+  pub pigeons : (xs ys : List X) → Apart xs → AllByRecursion (λ x. In x ys) xs → length xs ≤ length ys
   pigeons [] ys a s = omega arith
   pigeons (x ∷ xs) ys a s =
       let rest : length xs ≤ length (out x ys s.0) = pigeons xs (out x ys s.0) a.1 (sub_out x ys s.0 xs a.0 s.1) in

@@ -1,7 +1,7 @@
 -- Sums over a kind of costs. What bounds a sum is the sum of its spans.
 use Rattle.std.proofs.Common.{◌≡◌, ℕ, zero, suc, ◌+◌, ◌*◌, ◌<◌, ◌≤◌, ◌⊎◌, List, [], ◌∷◌, ◌++◌, length, get_or, take, sym, refl, ap, ◌∙◌, subst, inl, inr, arith}
 use Rattle.std.proofs.lemmas.List.{take_more}
-use Rattle.std.specs.List.{AllByRecursion as All}
+use Rattle.std.specs.List.{AllByRecursion}
 use Rattle.costs.specs.Kind.{Kind, Laws, AtMost, limit}
 use Rattle.costs.specs.Lists.{In, Apart}
 use Rattle.costs.specs.Sums.{sum_of, spans}
@@ -38,11 +38,11 @@ module _ {C : Type 0} (k : Kind C) (laws : Laws k) where
       (subst (λ x. AtMost k (k.plus c b) x) (laws.plus_comm d b (omega arith)) (laws.plus_order c d b (omega arith) (omega arith) lf)))
 
 module _ {C : Type 0} (k : Kind C) {X : Type 0} where
-  pub spans_le : (f : X → C) (m : ℕ) (xs : List X) → All (λ x. k.span (f x) ≤ m) xs → spans k f xs ≤ length xs * m
+  pub spans_le : (f : X → C) (m : ℕ) (xs : List X) → AllByRecursion (λ x. k.span (f x) ≤ m) xs → spans k f xs ≤ length xs * m
   spans_le f m [] h = omega arith
   spans_le f m (x ∷ xs) h = omega (arith, spans_le f m xs h.1, h.0)
 
-  pub sum_of_same : (f g : X → C) (xs : List X) → All (λ x. f x ≡ g x) xs → sum_of k f xs ≡ sum_of k g xs
+  pub sum_of_same : (f g : X → C) (xs : List X) → AllByRecursion (λ x. f x ≡ g x) xs → sum_of k f xs ≡ sum_of k g xs
   sum_of_same f g [] a = refl
   sum_of_same f g (x ∷ xs) a = ap (λ y. k.plus y (sum_of k f xs)) a.0 ∙ ap (k.plus (g x)) (sum_of_same f g xs a.1)
 
@@ -52,7 +52,7 @@ module _ {C : Type 0} (k : Kind C) {X : Type 0} where
   spans_out f c (x ∷ xs) (inl e) = ap (λ y. k.span (f y) + spans k f xs) (sym e)
   spans_out f c (x ∷ xs) (inr h) = omega (arith, spans_out f c xs h)
 
-  pub spans_reindex : (f : X → C) (xs ys : List X) → Apart xs → All (λ x. In x ys) xs → length xs ≡ length ys → spans k f xs ≡ spans k f ys
+  pub spans_reindex : (f : X → C) (xs ys : List X) → Apart xs → AllByRecursion (λ x. In x ys) xs → length xs ≡ length ys → spans k f xs ≡ spans k f ys
   spans_reindex f [] [] a s e = refl
   spans_reindex f [] (y ∷ ys) a s e = absurd (omega arith)
   spans_reindex f (x ∷ xs) ys a s e =
@@ -88,7 +88,7 @@ module _ {C : Type 0} (k : Kind C) (laws : Laws k) {X : Type 0} where
   spans_both f g [] h = omega arith
   spans_both f g (x ∷ xs) h = omega (arith, spans_both f g xs (omega arith), laws.plus_span (f x) (g x))
 
-  pub sum_of_rises : (f g : X → C) (xs : List X) → spans k f xs + spans k g xs ≤ limit → All (λ x. AtMost k (f x) (g x)) xs → AtMost k (sum_of k f xs) (sum_of k g xs)
+  pub sum_of_rises : (f g : X → C) (xs : List X) → spans k f xs + spans k g xs ≤ limit → AllByRecursion (λ x. AtMost k (f x) (g x)) xs → AtMost k (sum_of k f xs) (sum_of k g xs)
   sum_of_rises f g [] h a = at_most_itself k laws k.zero
   sum_of_rises f g (x ∷ xs) h a =
       plus_rises k laws (f x) (g x) (sum_of k f xs) (sum_of k g xs)
@@ -103,7 +103,7 @@ module _ {C : Type 0} (k : Kind C) (laws : Laws k) {X : Type 0} where
       ∙ swap k laws (f x) (f c) (sum_of k f (out c xs h)) (omega (arith, spans_out k f c xs h, sum_of_span f (out c xs h)))
 
   -- xs, with no two the same, uses up ys: the sum over either is the same
-  pub reindex : (f : X → C) (xs ys : List X) → Apart xs → All (λ x. In x ys) xs → length xs ≡ length ys → spans k f ys ≤ limit → sum_of k f xs ≡ sum_of k f ys
+  pub reindex : (f : X → C) (xs ys : List X) → Apart xs → AllByRecursion (λ x. In x ys) xs → length xs ≡ length ys → spans k f ys ≤ limit → sum_of k f xs ≡ sum_of k f ys
   reindex f [] [] a s e b = refl
   reindex f [] (y ∷ ys) a s e b = absurd (omega arith)
   reindex f (x ∷ xs) ys a s e b =

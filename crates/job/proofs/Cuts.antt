@@ -1,6 +1,6 @@
 -- The runs of a text that is not cut inside a run are those of its two parts.
 use Rattle.std.proofs.Common.{◌≡◌, ℕ, suc, ◌+◌, ◌<◌, ◌≤◌, Bool, true, false, cond, not, ◌⊎◌, List, [], ◌∷◌, ◌++◌, length, sym, refl, ap, ◌∙◌, inl, inr, arith}
-use Rattle.std.specs.List.{AllByRecursion as All}
+use Rattle.std.specs.List.{AllByRecursion}
 use Rattle.std.proofs.ByRecursion.{All-weaker}
 use Rattle.std.proofs.lemmas.Bool.{cond-true}
 use Rattle.job.specs.Runs.{Run, run_at, blank, front, runs_from, runs}
@@ -77,16 +77,16 @@ front_short (b ∷ bs) = front_short_by b bs (blank b) (front_short bs)
 abbrev pub Lies : ℕ → ℕ → Run → Type 0
 Lies low high r = (low ≤ r.place) × (r.place < high) × (r.place + length r.bytes ≤ high)
 
-later : (place high : ℕ) (rs : List Run) → All (Lies (place + 1) high) rs → All (Lies place high) rs
+later : (place high : ℕ) (rs : List Run) → AllByRecursion (Lies (place + 1) high) rs → AllByRecursion (Lies place high) rs
 later place high rs a = All-weaker (Lies (place + 1) high) (Lies place high) (λ r l. (omega (arith, l.0), l.1, l.2)) rs a
 
-runs_lie_by : (b place : ℕ) (bs : List ℕ) (high : ℕ) (t inside : Bool) → place + suc (length bs) ≤ high → ((i : Bool) → All (Lies (place + 1) high) (runs_from i (place + 1) bs)) → All (Lies place high) (cond t (runs_from false (place + 1) bs) (cond inside (runs_from true (place + 1) bs) (run_at place (b ∷ front bs) ∷ runs_from true (place + 1) bs)))
+runs_lie_by : (b place : ℕ) (bs : List ℕ) (high : ℕ) (t inside : Bool) → place + suc (length bs) ≤ high → ((i : Bool) → AllByRecursion (Lies (place + 1) high) (runs_from i (place + 1) bs)) → AllByRecursion (Lies place high) (cond t (runs_from false (place + 1) bs) (cond inside (runs_from true (place + 1) bs) (run_at place (b ∷ front bs) ∷ runs_from true (place + 1) bs)))
 runs_lie_by b place bs high true inside h go = later place high (runs_from false (place + 1) bs) (go false)
 runs_lie_by b place bs high false true h go = later place high (runs_from true (place + 1) bs) (go true)
 runs_lie_by b place bs high false false h go =
     let s = front_short bs in
     ((omega arith, omega arith, omega arith), later place high (runs_from true (place + 1) bs) (go true))
 
-pub runs_lie : (inside : Bool) (place : ℕ) (bs : List ℕ) (high : ℕ) → place + length bs ≤ high → All (Lies place high) (runs_from inside place bs)
+pub runs_lie : (inside : Bool) (place : ℕ) (bs : List ℕ) (high : ℕ) → place + length bs ≤ high → AllByRecursion (Lies place high) (runs_from inside place bs)
 runs_lie inside place [] high h = tt
 runs_lie inside place (b ∷ bs) high h = runs_lie_by b place bs high (blank b) inside h (λ i. runs_lie i (place + 1) bs high (omega arith))

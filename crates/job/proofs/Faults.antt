@@ -1,6 +1,6 @@
 -- The fault is the first, and nothing after it can change it.
 use Rattle.std.proofs.Common.{◌≡◌, ℕ, ◌+◌, ◌<◌, ◌≤◌, Bool, true, false, ◌⊎◌, List, [], ◌∷◌, ◌++◌, length, Some, None, Ok, Err, Option, Result, sym, refl, ap, ◌∙◌, subst, inl, inr, arith}
-use Rattle.std.specs.List.{AllByRecursion as All}
+use Rattle.std.specs.List.{AllByRecursion}
 use Rattle.std.proofs.lemmas.List.{length-append}
 use Rattle.job.specs.Limits.{max_text}
 use Rattle.job.specs.Faults.{Finding}
@@ -42,7 +42,7 @@ stopped_is_on : (P : Run → Type 0) (a : Result State Finding) (x : Run) (xs : 
 stopped_is_on P (Ok t) x xs p go = go t
 stopped_is_on P (Err f) x xs p go = p
 
-stopped_is : (P : Run → Type 0) (s : State) (xs : List Run) → All P xs → Is P (stopped s xs)
+stopped_is : (P : Run → Type 0) (s : State) (xs : List Run) → AllByRecursion P xs → Is P (stopped s xs)
 stopped_is P s [] a = tt
 stopped_is P s (x ∷ xs) a = stopped_is_on P (step s x) x xs a.0 (λ t. stopped_is P t xs a.1)
 

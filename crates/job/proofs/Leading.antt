@@ -1,6 +1,6 @@
 -- Runs that spell a part of a job lead from one state to the next.
 use Rattle.std.proofs.Common.{◌≡◌, ℕ, suc, ◌≤◌, Bool, true, false, cond, ◌&&◌, ltb, List, [], ◌∷◌, ◌++◌, map, length, Ok, Err, decimal, Option, Result, sym, refl, ap, ◌∙◌, subst, append_assoc, append-nil, arith}
-use Rattle.std.specs.List.{AllByRecursion as All}
+use Rattle.std.specs.List.{AllByRecursion}
 use Rattle.std.proofs.lemmas.Slice.Eq.{bytes_eq-Decides}
 use Rattle.std.proofs.lemmas.Bool.{cond-true, cond-false, ne_eqb, le-ltb, le-leb, and_from}
 use Rattle.std.proofs.lemmas.Bool.Decides.{nat_tests}
@@ -74,14 +74,14 @@ reads_one section k c d n ws u small goes on =
 within_from : (s n : ℕ) → Within s n → within s n ≡ true
 within_from s n w = and_from _ _ (le-leb 1 n w.0) (le-leb n s w.1)
 
-pub reads_trace : (ns : List ℕ) (c : Content) (ws : List (List ℕ)) (u : State) → c.size ≤ max_size → All (Within c.size) ns → Reads (state (Title Log) (record { kind = c.kind; size = c.size; pins = c.pins; trace = c.trace ++ ns; log = c.log })) ws u → Reads (state (coming Trace (length ns)) c) (map decimal ns ++ ws) u
+pub reads_trace : (ns : List ℕ) (c : Content) (ws : List (List ℕ)) (u : State) → c.size ≤ max_size → AllByRecursion (Within c.size) ns → Reads (state (Title Log) (record { kind = c.kind; size = c.size; pins = c.pins; trace = c.trace ++ ns; log = c.log })) ws u → Reads (state (coming Trace (length ns)) c) (map decimal ns ++ ws) u
 reads_trace [] c ws u h a on = subst (λ (ts : List ℕ). Reads (state (Title Log) (record { kind = c.kind; size = c.size; pins = c.pins; trace = ts; log = c.log })) ws u) (append-nil c.trace) on
 reads_trace (n ∷ ns) c ws u h a on =
     reads_one Trace (length ns) c (add_trace c n) n (map decimal ns ++ ws) u (omega (arith, a.0.1)) (λ p. cond-true _ _ _ (within_from c.size n a.0))
     (reads_trace ns (add_trace c n) ws u h a.1
     (subst (λ (ts : List ℕ). Reads (state (Title Log) (record { kind = c.kind; size = c.size; pins = c.pins; trace = ts; log = c.log })) ws u) (sym (append_assoc c.trace (n ∷ []) ns)) on))
 
-pub reads_log : (ns : List ℕ) (c : Content) (ws : List (List ℕ)) (u : State) → c.size ≤ max_size → All (Within c.size) ns → Reads (state End (record { kind = c.kind; size = c.size; pins = c.pins; trace = c.trace; log = c.log ++ ns })) ws u → Reads (state (coming Log (length ns)) c) (map decimal ns ++ ws) u
+pub reads_log : (ns : List ℕ) (c : Content) (ws : List (List ℕ)) (u : State) → c.size ≤ max_size → AllByRecursion (Within c.size) ns → Reads (state End (record { kind = c.kind; size = c.size; pins = c.pins; trace = c.trace; log = c.log ++ ns })) ws u → Reads (state (coming Log (length ns)) c) (map decimal ns ++ ws) u
 reads_log [] c ws u h a on = subst (λ (ts : List ℕ). Reads (state End (record { kind = c.kind; size = c.size; pins = c.pins; trace = c.trace; log = ts })) ws u) (append-nil c.log) on
 reads_log (n ∷ ns) c ws u h a on =
     reads_one Log (length ns) c (add_event c n) n (map decimal ns ++ ws) u (omega (arith, a.0.1)) (λ p. cond-true _ _ _ (within_from c.size n a.0))
@@ -139,7 +139,7 @@ small_delta d h = le-ltb max_delta d h
 abbrev pub content : Kind → ℕ → List Pin → List ℕ → List ℕ → Content
 content k s ps ts ls = record { kind = k; size = s; pins = ps; trace = ts; log = ls }
 
-pub reads_bounds : (k : Kind) (s : ℕ) (ps : List Pin) (ts ls : List ℕ) (ws : List (List ℕ)) (u : State) → delta_of k ≤ max_delta → All (λ n. n ≤ max_number) (bounds_of k) → Reads (state (Title Pins) (content k s ps ts ls)) ws u → Reads (state (Title Bounds) (content (empty_kind k) s ps ts ls)) (section_runs Bounds (bounds_of k) ++ ws) u
+pub reads_bounds : (k : Kind) (s : ℕ) (ps : List Pin) (ts ls : List ℕ) (ws : List (List ℕ)) (u : State) → delta_of k ≤ max_delta → AllByRecursion (λ n. n ≤ max_number) (bounds_of k) → Reads (state (Title Pins) (content k s ps ts ls)) ws u → Reads (state (Title Bounds) (content (empty_kind k) s ps ts ls)) (section_runs Bounds (bounds_of k) ++ ws) u
 reads_bounds (Mismatch b) s ps ts ls ws u d a on =
     reads_section Bounds (content (Mismatch 0) s ps ts ls) (b ∷ []) ws u refl (omega arith)
     (reads_one Bounds 0 (content (Mismatch 0) s ps ts ls) (content (Mismatch b) s ps ts ls) b ws u a.0 (λ p. refl) on)

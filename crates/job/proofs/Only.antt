@@ -1,7 +1,7 @@
 -- Only texts that spell a job are accepted.
 use Rattle.std.proofs.Common.{◌≡◌, ℕ, ◌+◌, ◌*◌, ◌/◌, ◌%◌, ◌≤◌, Bool, true, false, cond, eqb, ltb, leb, List, [], ◌∷◌, ◌++◌, map, length, Ok, Err, decimal, Result, sym, refl, ap, ◌∙◌, subst, arith}
 use native.Mathlib.Nat.{div-add-mod}
-use Rattle.std.specs.List.{AllByRecursion as All}
+use Rattle.std.specs.List.{AllByRecursion}
 use Rattle.std.proofs.lemmas.Bool.{leb-true, ltb-false, eqb-true}
 use Rattle.tables.specs.Limits.{max_size, max_places, max_delta}
 use Rattle.tables.specs.Pins.{no_pins}
@@ -36,7 +36,7 @@ whole section ns n xs ys zs e q l =
     e ∙ ap (λ (ws : List (List ℕ)). title_word section ∷ decimal n ∷ ws) q ∙ ap (λ k. title_word section ∷ decimal k ∷ (map decimal ns ++ zs)) (sym l)
 
 abbrev pub Bounded : Kind → ℕ → List Pin → List ℕ → List ℕ → List Run → Content → Type 0
-Bounded k s ps ts ls rs j = (k' : Kind) × (rest : List Run) × (kind_word k ≡ kind_word k') × (delta_of k' ≤ max_delta) × All (λ n. n ≤ max_number) (bounds_of k') × (bytes_of rs ≡ section_runs Bounds (bounds_of k') ++ bytes_of rest) × Solid rest × Ends (Title Pins) (content k' s ps ts ls) rest j
+Bounded k s ps ts ls rs j = (k' : Kind) × (rest : List Run) × (kind_word k ≡ kind_word k') × (delta_of k' ≤ max_delta) × AllByRecursion (λ n. n ≤ max_number) (bounds_of k') × (bytes_of rs ≡ section_runs Bounds (bounds_of k') ++ bytes_of rest) × Solid rest × Ends (Title Pins) (content k' s ps ts ls) rest j
 
 pub bounds_inv : (k : Kind) (s : ℕ) (ps : List Pin) (ts ls : List ℕ) (rs : List Run) (j : Content) → Solid rs → Ends (Title Bounds) (content k s ps ts ls) rs j → Bounded k s ps ts ls rs j
 bounds_inv (Mismatch b) s ps ts ls rs j a ok =
@@ -129,7 +129,7 @@ even_by n false e ok = let z : ◌≡◌ {A = ℕ} 0 1 = cc in absurd (omega ari
 
 -- from each section on, what the rest of the runs tells of the job
 abbrev FromLog : Kind → ℕ → List Pin → List ℕ → List Run → Content → Type 0
-FromLog k s ps ts rs j = (bytes_of rs ≡ section_runs Log j.log ++ []) × (length j.log ≤ max_log) × All (Within s) j.log × (k ≡ j.kind) × (s ≡ j.size) × (ps ≡ j.pins) × (ts ≡ j.trace)
+FromLog k s ps ts rs j = (bytes_of rs ≡ section_runs Log j.log ++ []) × (length j.log ≤ max_log) × AllByRecursion (Within s) j.log × (k ≡ j.kind) × (s ≡ j.size) × (ps ≡ j.pins) × (ts ≡ j.trace)
 
 module _ (k : Kind) (s : ℕ) (ps : List Pin) (ts : List ℕ) (rs : List Run) (j : Content) where
   log_out : (h : Counted Log (content k s ps ts []) rs j) (n : Logged h.0 (content k s ps ts []) h.1 j) → (bytes_of n.1 ≡ []) × (content k s ps ts n.0 ≡ j) → FromLog k s ps ts rs j
@@ -154,14 +154,14 @@ module _ (k : Kind) (s : ℕ) (ps : List Pin) (ts : List ℕ) (rs : List Run) (j
   from_log a ok = log_by (section_inv Log (content k s ps ts []) rs j a ok)
 
 abbrev FromTrace : Kind → ℕ → List Pin → List Run → Content → Type 0
-FromTrace k s ps rs j = (bytes_of rs ≡ section_runs Trace j.trace ++ (section_runs Log j.log ++ [])) × Within max_places (length j.trace) × All (Within s) j.trace × (length j.log ≤ max_log) × All (Within s) j.log × (k ≡ j.kind) × (s ≡ j.size) × (ps ≡ j.pins)
+FromTrace k s ps rs j = (bytes_of rs ≡ section_runs Trace j.trace ++ (section_runs Log j.log ++ [])) × Within max_places (length j.trace) × AllByRecursion (Within s) j.trace × (length j.log ≤ max_log) × AllByRecursion (Within s) j.log × (k ≡ j.kind) × (s ≡ j.size) × (ps ≡ j.pins)
 
 module _ (k : Kind) (s : ℕ) (ps : List Pin) (rs : List Run) (j : Content) where
   trace_out : (h : Counted Trace (content k s ps [] []) rs j) (m : Traced h.0 (content k s ps [] []) h.1 j) → FromLog k s ps m.0 m.1 j → FromTrace k s ps rs j
   trace_out h m x = (
     whole Trace m.0 h.0 (bytes_of rs) (bytes_of h.1) (bytes_of m.1) h.2 m.4 m.2 ∙ ap (λ (ts : List ℕ). section_runs Trace ts ++ bytes_of m.1) x.6 ∙ ap (λ (ws : List (List ℕ)). section_runs Trace j.trace ++ ws) x.0,
     subst (λ (ts : List ℕ). Within max_places (length ts)) x.6 (subst (Within max_places) (sym m.2) (within_to max_places h.0 h.3)),
-    subst (All (Within s)) x.6 m.3,
+    subst (AllByRecursion (Within s)) x.6 m.3,
     x.1,
     x.2,
     x.3,
@@ -179,7 +179,7 @@ module _ (k : Kind) (s : ℕ) (ps : List Pin) (rs : List Run) (j : Content) wher
   from_trace a ok = trace_by (section_inv Trace (content k s ps [] []) rs j a ok)
 
 abbrev FromPins : Kind → ℕ → List Run → Content → Type 0
-FromPins k s rs j = (bytes_of rs ≡ section_runs Pins (by_turns j.pins) ++ (section_runs Trace j.trace ++ (section_runs Log j.log ++ []))) × (length (by_turns j.pins) ≤ max_pin_numbers) × Accepted s no_pins j.pins × Within max_places (length j.trace) × All (Within s) j.trace × (length j.log ≤ max_log) × All (Within s) j.log × (k ≡ j.kind) × (s ≡ j.size)
+FromPins k s rs j = (bytes_of rs ≡ section_runs Pins (by_turns j.pins) ++ (section_runs Trace j.trace ++ (section_runs Log j.log ++ []))) × (length (by_turns j.pins) ≤ max_pin_numbers) × Accepted s no_pins j.pins × Within max_places (length j.trace) × AllByRecursion (Within s) j.trace × (length j.log ≤ max_log) × AllByRecursion (Within s) j.log × (k ≡ j.kind) × (s ≡ j.size)
 
 module _ (k : Kind) (s : ℕ) (rs : List Run) (j : Content) where
   pins_out : (h : Counted Pins (content k s [] [] []) rs j) (m : Pinned h.0 (content k s [] [] []) h.1 j) → h.0 ≤ max_pin_numbers → FromTrace k s m.0 m.1 j → FromPins k s rs j
@@ -219,13 +219,13 @@ module _ (k : Kind) (s : ℕ) (rs : List Run) (j : Content) where
     λ sized. record {
       size = subst (Within max_size) x.8 sized;
       delta = subst (λ (q : Kind). delta_of q ≤ max_delta) x.7 b.3;
-      bounds = subst (λ (q : Kind). All (λ n. n ≤ max_number) (bounds_of q)) x.7 b.4;
+      bounds = subst (λ (q : Kind). AllByRecursion (λ n. n ≤ max_number) (bounds_of q)) x.7 b.4;
       few_pins = x.1;
       pins = subst (λ i. Accepted i no_pins j.pins) x.8 x.2;
       places = x.3;
-      trace = subst (λ i. All (Within i) j.trace) x.8 x.4;
+      trace = subst (λ i. AllByRecursion (Within i) j.trace) x.8 x.4;
       few_events = x.5;
-      log = subst (λ i. All (Within i) j.log) x.8 x.6;
+      log = subst (λ i. AllByRecursion (Within i) j.log) x.8 x.6;
     },
   )
 

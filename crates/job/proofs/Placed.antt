@@ -1,6 +1,6 @@
 -- A fault lies within the runs up to the one at which it was found.
 use Rattle.std.proofs.Common.{ℕ, ◌+◌, ◌-◌, ◌<◌, ◌≤◌, Bool, true, false, ◌&&◌, eqb, ltb, List, [], ◌∷◌, length, Some, None, Ok, Err, Option, Result, arith}
-use Rattle.std.specs.List.{AllByRecursion as All}
+use Rattle.std.specs.List.{AllByRecursion}
 use Rattle.std.proofs.lemmas.Bool.{cond_both}
 use Rattle.std.specs.Str.{bytes_eq}
 use Rattle.tables.specs.Limits.{max_size, max_delta}
@@ -108,6 +108,6 @@ placed_on : (n : ℕ) (a : Result State Finding) (go : State → Result State Fi
 placed_on n (Ok t) go p h = h t p
 placed_on n (Err f) go p h = p
 
-pub placed_walk : (low n : ℕ) (s : State) (rs : List Run) → All (Lies low n) rs → Kept n s.expected → Placed n (walk s rs)
+pub placed_walk : (low n : ℕ) (s : State) (rs : List Run) → AllByRecursion (Lies low n) rs → Kept n s.expected → Placed n (walk s rs)
 placed_walk low n s [] a k = k
 placed_walk low n s (r ∷ rs) a k = placed_on n (step s r) (λ t. walk t rs) (placed_step low n s r a.0 k) (λ t j. placed_walk low n t rs a.1 j)

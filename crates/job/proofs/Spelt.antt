@@ -1,6 +1,6 @@
 -- A text that is accepted spells the job.
 use Rattle.std.proofs.Common.{◌≡◌, ℕ, zero, suc, ◌-◌, ◌*◌, ◌≤◌, true, leb, List, [], ◌∷◌, ◌++◌, map, length, Ok, Err, decimal, Option, Result, sym, refl, ap, ◌∙◌, subst, append_assoc, append-nil, arith}
-use Rattle.std.specs.List.{AllByRecursion as All}
+use Rattle.std.specs.List.{AllByRecursion}
 use Rattle.std.proofs.lemmas.Bool.{and_parts, leb-true}
 use Rattle.tables.specs.Pins.{pin_answer}
 use Rattle.tables.specs.Table.{Within, within}
@@ -61,7 +61,7 @@ pub within_to : (s n : ℕ) → within s n ≡ true → Within s n
 within_to s n e = let both = and_parts (leb 1 n) (leb n s) e in (leb-true 1 n both.0, leb-true n s both.1)
 
 abbrev pub Traced : ℕ → Content → List Run → Content → Type 0
-Traced n c rs j = (ns : List ℕ) × (rest : List Run) × (length ns ≡ n) × All (Within c.size) ns × (bytes_of rs ≡ map decimal ns ++ bytes_of rest) × Solid rest × Ends (Title Log) (content c.kind c.size c.pins (c.trace ++ ns) c.log) rest j
+Traced n c rs j = (ns : List ℕ) × (rest : List Run) × (length ns ≡ n) × AllByRecursion (Within c.size) ns × (bytes_of rs ≡ map decimal ns ++ bytes_of rest) × Solid rest × Ends (Title Log) (content c.kind c.size c.pins (c.trace ++ ns) c.log) rest j
 
 pub trace_inv : (n : ℕ) (c : Content) (rs : List Run) (j : Content) → Solid rs → Ends (coming Trace n) c rs j → Traced n c rs j
 trace_inv zero c rs j a ok = ([], rs, refl, tt, refl, a, ap (λ (ts : List ℕ). walk (state (Title Log) (content c.kind c.size c.pins ts c.log)) rs) (append-nil c.trace) ∙ ok)
@@ -79,7 +79,7 @@ trace_inv (suc k) c rs j a ok =
     )
 
 abbrev pub Logged : ℕ → Content → List Run → Content → Type 0
-Logged n c rs j = (ns : List ℕ) × (rest : List Run) × (length ns ≡ n) × All (Within c.size) ns × (bytes_of rs ≡ map decimal ns ++ bytes_of rest) × Solid rest × Ends End (content c.kind c.size c.pins c.trace (c.log ++ ns)) rest j
+Logged n c rs j = (ns : List ℕ) × (rest : List Run) × (length ns ≡ n) × AllByRecursion (Within c.size) ns × (bytes_of rs ≡ map decimal ns ++ bytes_of rest) × Solid rest × Ends End (content c.kind c.size c.pins c.trace (c.log ++ ns)) rest j
 
 pub log_inv : (n : ℕ) (c : Content) (rs : List Run) (j : Content) → Solid rs → Ends (coming Log n) c rs j → Logged n c rs j
 log_inv zero c rs j a ok = ([], rs, refl, tt, refl, a, ap (λ (ts : List ℕ). walk (state End (content c.kind c.size c.pins c.trace ts)) rs) (append-nil c.log) ∙ ok)

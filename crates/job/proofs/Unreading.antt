@@ -1,7 +1,7 @@
 -- What the steps that were taken tell of their runs.
 use Rattle.std.proofs.Common.{◌≡◌, ℕ, ◌+◌, ◌<◌, ◌≤◌, Bool, true, false, cond, ◌&&◌, leb, List, [], ◌∷◌, length, get_or, Some, None, Ok, Err, codes, decimal, Option, Result, sym, refl, ap, ◌∙◌, subst, arith}
 use Rattle.std.specs.Char.{is_ascii_digit}
-use Rattle.std.specs.List.{AllByRecursion as All}
+use Rattle.std.specs.List.{AllByRecursion}
 use Rattle.std.specs.Str.{bytes_eq, all_ascii_digits}
 use Rattle.std.proofs.lemmas.Fmt.{decimal-digits_value}
 use Rattle.std.proofs.lemmas.Slice.Eq.{bytes_eq-Decides}
@@ -141,7 +141,7 @@ kind_inv c r t ok = kind_inv_sort c r t (sort r) ok
 
 -- the first run of a walk that goes on
 abbrev pub Solid : List Run → Type 0
-Solid rs = All (λ (r : Run). 0 < length r.bytes) rs
+Solid rs = AllByRecursion (λ (r : Run). 0 < length r.bytes) rs
 
 abbrev pub Went : State → List Run → State → Type 0
 Went s rs u = (r : Run) × (rest : List Run) × (t : State) × (rs ≡ r ∷ rest) × (0 < length r.bytes) × Solid rest × (step s r ≡ Ok t) × (walk t rest ≡ Ok u)

@@ -1,6 +1,6 @@
 -- How a job is written, and which jobs there are.
 use Rattle.std.specs.Prelude.{◌≡◌, ℕ, ◌≤◌, List, [], ◌∷◌, ◌++◌, map, length, Ok, decimal, Option}
-use Rattle.std.specs.List.{AllByRecursion as All}
+use Rattle.std.specs.List.{AllByRecursion}
 use Rattle.tables.specs.Limits.{max_size, max_places, max_delta}
 use Rattle.tables.specs.Pins.{no_pins, pin_answer, after_pin}
 use Rattle.tables.specs.Table.{Within}
@@ -46,10 +46,10 @@ Accepted size pins (p ∷ ps) = (pin_answer size pins p.event p.number ≡ Ok tt
 pub record Valid (c : Content) : Type 0 where
   pub size : Within max_size c.size
   pub delta : delta_of c.kind ≤ max_delta
-  pub bounds : All (λ n. n ≤ max_number) (bounds_of c.kind)
+  pub bounds : AllByRecursion (λ n. n ≤ max_number) (bounds_of c.kind)
   pub few_pins : length (by_turns c.pins) ≤ max_pin_numbers
   pub pins : Accepted c.size no_pins c.pins
   pub places : Within max_places (length c.trace)
-  pub trace : All (Within c.size) c.trace
+  pub trace : AllByRecursion (Within c.size) c.trace
   pub few_events : length c.log ≤ max_log
-  pub log : All (Within c.size) c.log
+  pub log : AllByRecursion (Within c.size) c.log

@@ -1,6 +1,6 @@
 -- Grades that are the same for events and numbers 1 to s make the same renumberings allowed, at the same costs.
 use Rattle.std.proofs.Common.{◌≡◌, ℕ, ◌+◌, ◌-◌, ◌≤◌, ◌&&◌, List, [], ◌∷◌, length, get_or, sym, refl, ap, ◌∙◌, arith}
-use Rattle.std.specs.List.{AllByRecursion as All}
+use Rattle.std.specs.List.{AllByRecursion}
 use Rattle.std.proofs.ByRecursion.{All-get_or}
 use Rattle.costs.specs.Kind.{Kind}
 use Rattle.costs.specs.Sums.{sum_of}
@@ -15,7 +15,7 @@ pub number_within : (s : ℕ) (ns : List ℕ) → Renumbering s ns → (r : ℕ)
 number_within s ns renumbers r w = All-get_or (Within s) ns (r - 1) 0 (let len = renumbers.0 in omega arith) renumbers.1
 
 module _ {C : Type 0} (g g' : ℕ → ℕ → Grade C) (s : ℕ) (same : (r c : ℕ) → Within s r → Within s c → g r c ≡ g' r c) where
-  all_open_same : (r : ℕ) (ns : List ℕ) → 1 ≤ r → r + length ns ≤ s + 1 → All (Within s) ns → all_open g (pairs_from r ns) ≡ all_open g' (pairs_from r ns)
+  all_open_same : (r : ℕ) (ns : List ℕ) → 1 ≤ r → r + length ns ≤ s + 1 → AllByRecursion (Within s) ns → all_open g (pairs_from r ns) ≡ all_open g' (pairs_from r ns)
   all_open_same r [] from to w = refl
   all_open_same r (c ∷ cs) from to w =
       ap (λ x. is_open x && all_open g (pairs_from (r + 1) cs)) (same r c (from, omega arith) w.0)
@@ -25,7 +25,7 @@ module _ {C : Type 0} (g g' : ℕ → ℕ → Grade C) (s : ℕ) (same : (r c : 
   allowed_same ns renumbers = all_open_same 1 ns (omega arith) (let len = renumbers.0 in omega arith) renumbers.1
 
   module _ (k : Kind C) where
-    sum_same : (r : ℕ) (ns : List ℕ) → 1 ≤ r → r + length ns ≤ s + 1 → All (Within s) ns → sum_of k (pair_cost k g) (pairs_from r ns) ≡ sum_of k (pair_cost k g') (pairs_from r ns)
+    sum_same : (r : ℕ) (ns : List ℕ) → 1 ≤ r → r + length ns ≤ s + 1 → AllByRecursion (Within s) ns → sum_of k (pair_cost k g) (pairs_from r ns) ≡ sum_of k (pair_cost k g') (pairs_from r ns)
     sum_same r [] from to w = refl
     sum_same r (c ∷ cs) from to w =
         ap (λ x. k.plus (cost_of k x) (sum_of k (pair_cost k g) (pairs_from (r + 1) cs))) (same r c (from, omega arith) w.0)

@@ -1,7 +1,7 @@
 -- A set of events to which only numbers held inside it are open has too few open numbers.
 use Rattle.std.proofs.Common.{◌≡◌, ℕ, Bool, true, false, cond, ◌||◌, List, [], ◌∷◌, map, filter, sym, refl, ap, ◌∙◌, subst, inl, inr, arith}
 use lib.ListN.{length-map}
-use Rattle.std.specs.List.{AllByRecursion as All}
+use Rattle.std.specs.List.{AllByRecursion}
 use Rattle.std.proofs.lemmas.Bool.{false≢true}
 use Rattle.costs.specs.Lists.{In, Apart}
 use Rattle.tables.specs.Table.{Within}
@@ -40,7 +40,7 @@ apart_map f (x ∷ xs) i a = (
 )
 
 -- what holds of each entry that a function makes
-pub all_map : (P : ℕ → Type 0) (f : ℕ → ℕ) (xs : List ℕ) → ((x : ℕ) → In x xs → P (f x)) → All P (map f xs)
+pub all_map : (P : ℕ → Type 0) (f : ℕ → ℕ) (xs : List ℕ) → ((x : ℕ) → In x xs → P (f x)) → AllByRecursion P (map f xs)
 all_map P f [] g = tt
 all_map P f (x ∷ xs) g = (g x (inl refl), all_map P f xs (λ y m. g y (inr m)))
 

@@ -1,6 +1,6 @@
 -- Prices prove a renumbering cheapest.
 use Rattle.std.proofs.Common.{◌≡◌, ℕ, zero, suc, ◌+◌, ◌-◌, ◌*◌, ◌<◌, ◌≤◌, true, List, length, get_or, sym, ap, ◌∙◌, subst, arith}
-use Rattle.std.specs.List.{range_with_len, AllByRecursion as All}
+use Rattle.std.specs.List.{range_with_len, AllByRecursion}
 use Rattle.std.proofs.lemmas.List.FromFn.{length-range_with_len}
 use Rattle.costs.specs.Kind.{Kind, Laws, AtMost}
 use Rattle.costs.specs.Sums.{sum_of, spans}
@@ -13,7 +13,7 @@ use Rattle.costs.proofs.Sums.{spans_le, sum_of_same, spans_reindex, sum_of_both,
 use Rattle.judge.proofs.Pairs.{in_up_to, all_places, opened, all_pairs, open_places, firsts, seconds, spans_firsts, spans_seconds, length_pairs}
 
 -- each of the numbers counted
-all_counting : (P : ℕ → Type 0) (a n : ℕ) → ((c : ℕ) → a ≤ c → c < a + n → P c) → All P (range_with_len a n)
+all_counting : (P : ℕ → Type 0) (a n : ℕ) → ((c : ℕ) → a ≤ c → c < a + n → P c) → AllByRecursion P (range_with_len a n)
 all_counting P a zero f = tt
 all_counting P a (suc n) f = (f a (omega arith) (omega arith), all_counting P (a + 1) n (λ c h l. f c (omega arith) (omega arith)))
 

@@ -1,6 +1,6 @@
 -- The list of all renumberings.
 use Rattle.std.proofs.Common.{◌≡◌, ℕ, zero, suc, ◌+◌, ◌<◌, ◌≤◌, Bool, true, false, cond, eqb, ◌⊎◌, List, [], ◌∷◌, ◌++◌, map, length, sym, refl, ap, ◌∙◌, subst, inl, inr, arith}
-use Rattle.std.specs.List.{range_with_len, AllByRecursion as All}
+use Rattle.std.specs.List.{range_with_len, AllByRecursion}
 use Rattle.std.proofs.lemmas.Bool.{eqb-true, eqb-false}
 use Rattle.costs.specs.Lists.{In, Apart, without}
 use Rattle.tables.specs.Table.{Within}
@@ -28,7 +28,7 @@ module _ {X : Type 0} where
       step (inl a) = inl (inr a)
       step (inr b) = inr b
 
-  pub all_in : (P : X → Type 0) (xs : List X) → All P xs → (x : X) → In x xs → P x
+  pub all_in : (P : X → Type 0) (xs : List X) → AllByRecursion P xs → (x : X) → In x xs → P x
   all_in P [] a x h = absurd h
   all_in P (y ∷ ys) a x (inl e) = subst P (sym e) a.0
   all_in P (y ∷ ys) a x (inr h) = all_in P ys a.1 x h
@@ -97,28 +97,28 @@ from_headed f xs (z ∷ zs) l h = go (from_headed f xs zs l) (in_either l (map (
     go r (inl m) = let t = from_map (λ (q : List ℕ). z ∷ q) l (f (without z xs)) m in (z, t.0, t.1, inl refl, t.2)
     go r (inr m) = let t = r m in (t.0, t.1, t.2, inr t.3, t.4)
 
-without_all : (c : ℕ) (xs : List ℕ) (l : List ℕ) → (In c l → ⊥) → All (λ d. In d xs) l → All (λ d. In d (without c xs)) l
+without_all : (c : ℕ) (xs : List ℕ) (l : List ℕ) → (In c l → ⊥) → AllByRecursion (λ d. In d xs) l → AllByRecursion (λ d. In d (without c xs)) l
 without_all c xs [] n a = tt
 without_all c xs (d ∷ ds) n a = (in_without c d xs (λ e. n (inl (sym e))) a.0, without_all c xs ds (λ m. n (inr m)) a.1)
 
-all_without : (c : ℕ) (xs : List ℕ) (l : List ℕ) → All (λ d. In d (without c xs)) l → All (λ d. In d xs) l
+all_without : (c : ℕ) (xs : List ℕ) (l : List ℕ) → AllByRecursion (λ d. In d (without c xs)) l → AllByRecursion (λ d. In d xs) l
 all_without c xs [] a = tt
 all_without c xs (d ∷ ds) a = (from_without c d xs a.0, all_without c xs ds a.1)
 
-pub in_arrangements : (n : ℕ) (xs l : List ℕ) → length l ≡ n → All (λ c. In c xs) l → Apart l → In l (arrangements n xs)
+pub in_arrangements : (n : ℕ) (xs l : List ℕ) → length l ≡ n → AllByRecursion (λ c. In c xs) l → Apart l → In l (arrangements n xs)
 in_arrangements zero xs [] e a d = inl refl
 in_arrangements zero xs (c ∷ l) e a d = absurd (omega arith)
 in_arrangements (suc n) xs [] e a d = absurd (omega arith)
 in_arrangements (suc n) xs (c ∷ l) e a d =
     in_headed (arrangements n) xs xs c l a.0 (in_arrangements n (without c xs) l (omega arith) (without_all c xs l d.0 a.1) d.1)
 
-pub from_arrangements : (n : ℕ) (xs l : List ℕ) → Apart xs → In l (arrangements n xs) → (length l ≡ n) × All (λ c. In c xs) l × Apart l
-from_arrangements zero xs l d (inl e) = subst (λ q. (length q ≡ 0) × All (λ c. In c xs) q × Apart q) (sym e) (refl, tt, tt)
+pub from_arrangements : (n : ℕ) (xs l : List ℕ) → Apart xs → In l (arrangements n xs) → (length l ≡ n) × AllByRecursion (λ c. In c xs) l × Apart l
+from_arrangements zero xs l d (inl e) = subst (λ q. (length q ≡ 0) × AllByRecursion (λ c. In c xs) q × Apart q) (sym e) (refl, tt, tt)
 from_arrangements zero xs l d (inr h) = absurd h
 from_arrangements (suc n) xs l d h =
     let t = from_headed (arrangements n) xs xs l h in
     let r = from_arrangements n (without t.0 xs) t.1 (apart_without t.0 xs d) t.4 in
-    subst (λ q. (length q ≡ suc n) × All (λ c. In c xs) q × Apart q) (sym t.2)
+    subst (λ q. (length q ≡ suc n) × AllByRecursion (λ c. In c xs) q × Apart q) (sym t.2)
     (ap suc r.0, (t.3, all_without t.0 xs t.1 r.1), (λ m. gone t.0 xs d (all_in (λ c. In c (without t.0 xs)) t.1 r.1 t.0 m), r.2))
 
 pub from_counting : (a n c : ℕ) → In c (range_with_len a n) → (a ≤ c) × (c < a + n)
@@ -130,7 +130,7 @@ pub apart_counting : (a n : ℕ) → Apart (range_with_len a n)
 apart_counting a zero = tt
 apart_counting a (suc n) = (λ m. let t = from_counting (a + 1) n a m in omega arith, apart_counting (a + 1) n)
 
-within_up_to : (s : ℕ) (l : List ℕ) → All (λ c. In c (up_to s)) l → All (Within s) l
+within_up_to : (s : ℕ) (l : List ℕ) → AllByRecursion (λ c. In c (up_to s)) l → AllByRecursion (Within s) l
 within_up_to s [] a = tt
 within_up_to s (c ∷ l) a = (let t = from_counting 1 s c a.0 in (t.0, omega arith), within_up_to s l a.1)
 

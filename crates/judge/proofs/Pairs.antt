@@ -1,6 +1,6 @@
 -- The pairs of a renumbering.
 use Rattle.std.proofs.Common.{◌≡◌, ℕ, zero, suc, ◌+◌, ◌<◌, ◌≤◌, true, ◌⊎◌, List, [], ◌∷◌, length, get_or, refl, ap, subst, inl, inr, arith}
-use Rattle.std.specs.List.{range_with_len, AllByRecursion as All}
+use Rattle.std.specs.List.{range_with_len, AllByRecursion}
 use Rattle.std.proofs.lemmas.Bool.{and_parts, false≢true, cases_eq}
 use Rattle.std.proofs.ByRecursion.{All-weaker}
 use Rattle.costs.specs.Kind.{Kind}
@@ -20,11 +20,11 @@ in_counting a (suc n) c h l = first-or (in_counting (a + 1) n c) (cases_eq c a)
     first-or f (inl e) = inl e
     first-or f (inr d) = inr (f (omega arith) (omega arith))
 
-pub in_up_to : (s : ℕ) (ns : List ℕ) → All (Within s) ns → All (λ c. In c (up_to s)) ns
+pub in_up_to : (s : ℕ) (ns : List ℕ) → AllByRecursion (Within s) ns → AllByRecursion (λ c. In c (up_to s)) ns
 in_up_to s ns h = All-weaker (Within s) (λ c. In c (up_to s)) (λ c w. in_counting 1 s c w.0 (omega (arith, w.1))) ns h
 
 -- by places
-pub all_places : (P : ℕ → ℕ → Type 0) (ns : List ℕ) (r : ℕ) → ((i : ℕ) → i < length ns → P (r + i) (get_or ns i 0)) → All (λ (p : ℕ × ℕ). P p.0 p.1) (pairs_from r ns)
+pub all_places : (P : ℕ → ℕ → Type 0) (ns : List ℕ) (r : ℕ) → ((i : ℕ) → i < length ns → P (r + i) (get_or ns i 0)) → AllByRecursion (λ (p : ℕ × ℕ). P p.0 p.1) (pairs_from r ns)
 all_places P [] r f = tt
 all_places P (c ∷ cs) r f = (
   subst (λ (a : ℕ). P a c) (omega arith) (f 0 (omega arith)),
@@ -37,7 +37,7 @@ module _ {C : Type 0} where
   opened (Open y) h = (y, refl)
 
   -- what holds of each open pair holds of the pairs of an allowed renumbering
-  pub all_pairs : (g : ℕ → ℕ → Grade C) (P : ℕ → ℕ → Type 0) (s : ℕ) → ((a b : ℕ) → Within s a → Within s b → (x : C) → g a b ≡ Open x → P a b) → (r : ℕ) (ns : List ℕ) → 1 ≤ r → r + length ns ≤ s + 1 → All (Within s) ns → all_open g (pairs_from r ns) ≡ true → All (λ (p : ℕ × ℕ). P p.0 p.1) (pairs_from r ns)
+  pub all_pairs : (g : ℕ → ℕ → Grade C) (P : ℕ → ℕ → Type 0) (s : ℕ) → ((a b : ℕ) → Within s a → Within s b → (x : C) → g a b ≡ Open x → P a b) → (r : ℕ) (ns : List ℕ) → 1 ≤ r → r + length ns ≤ s + 1 → AllByRecursion (Within s) ns → all_open g (pairs_from r ns) ≡ true → AllByRecursion (λ (p : ℕ × ℕ). P p.0 p.1) (pairs_from r ns)
   all_pairs g P s f r [] l h w o = tt
   all_pairs g P s f r (c ∷ cs) l h w o =
       let both = and_parts (is_open (g r c)) (all_open g (pairs_from (r + 1) cs)) o in

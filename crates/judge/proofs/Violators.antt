@@ -1,6 +1,6 @@
 -- A set of events with too few open numbers leaves no renumbering allowed.
 use Rattle.std.proofs.Common.{◌≡◌, ℕ, suc, ◌+◌, ◌≤◌, Bool, true, false, cond, List, [], ◌∷◌, length, filter, sym, refl, ap, ◌∙◌, subst, inl, inr, arith}
-use Rattle.std.specs.List.{range_with_len, AllByRecursion as All}
+use Rattle.std.specs.List.{range_with_len, AllByRecursion}
 use Rattle.std.proofs.lemmas.Bool.{and_parts, or_left, or_right}
 use Rattle.costs.specs.Lists.{In, Apart}
 use Rattle.tables.specs.Table.{Within}
@@ -61,14 +61,14 @@ chosen_length m r (x ∷ xs) = either (m r) (chosen_length m (r + 1) xs)
     either false h = h
 
 module _ {C : Type 0} (g : ℕ → ℕ → Grade C) (s : ℕ) (m : ℕ → Bool) where
-  chosen_open : (r : ℕ) (cs : List ℕ) → 1 ≤ r → r + length cs ≤ s + 1 → All (Within s) cs → all_open g (pairs_from r cs) ≡ true → All (λ c. In c (open_numbers (opens g) s (filter m (up_to s)))) (chosen m r cs)
+  chosen_open : (r : ℕ) (cs : List ℕ) → 1 ≤ r → r + length cs ≤ s + 1 → AllByRecursion (Within s) cs → all_open g (pairs_from r cs) ≡ true → AllByRecursion (λ c. In c (open_numbers (opens g) s (filter m (up_to s)))) (chosen m r cs)
   unfolding chosen
   chosen_open r [] l h w o = tt
   chosen_open r (x ∷ xs) l h w o =
       let both = and_parts (is_open (g r x)) (all_open g (pairs_from (r + 1) xs)) o in
       either (m r) refl both.0 (chosen_open (r + 1) xs (omega arith) (omega arith) w.1 both.1)
     where
-      either : (b : Bool) → m r ≡ b → is_open (g r x) ≡ true → All (λ c. In c (open_numbers (opens g) s (filter m (up_to s)))) (chosen m (r + 1) xs) → All (λ c. In c (open_numbers (opens g) s (filter m (up_to s)))) (cond b (x ∷ chosen m (r + 1) xs) (chosen m (r + 1) xs))
+      either : (b : Bool) → m r ≡ b → is_open (g r x) ≡ true → AllByRecursion (λ c. In c (open_numbers (opens g) s (filter m (up_to s)))) (chosen m (r + 1) xs) → AllByRecursion (λ c. In c (open_numbers (opens g) s (filter m (up_to s)))) (cond b (x ∷ chosen m (r + 1) xs) (chosen m (r + 1) xs))
       either true e o1 rest =
           (in_kept (open_to (opens g) (filter m (up_to s))) x (up_to s) (open_to_one (opens g) r x (filter m (up_to s)) o1 (in_kept m r (up_to s) e (in_counting 1 s r l (omega arith)))) (in_counting 1 s x w.0.0 (omega (arith, w.0.1))), rest)
       either false e o1 rest = rest

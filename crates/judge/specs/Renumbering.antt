@@ -1,6 +1,6 @@
 -- Renumberings: the house numbers of events 1 to s, no number twice.
 use Rattle.std.specs.Prelude.{◌≡◌, ℕ, ◌+◌, List, [], ◌∷◌, length}
-use Rattle.std.specs.List.{range_with_len, AllByRecursion as All}
+use Rattle.std.specs.List.{range_with_len, AllByRecursion}
 use Rattle.costs.specs.Lists.{Apart}
 use Rattle.tables.specs.Table.{Within}
 
@@ -10,7 +10,7 @@ up_to s = range_with_len 1 s
 
 -- s numbers from 1 to s, no two the same: the first is that of event 1
 abbrev pub Renumbering : ℕ → List ℕ → Type 0
-Renumbering s ns = (length ns ≡ s) × All (Within s) ns × Apart ns
+Renumbering s ns = (length ns ≡ s) × AllByRecursion (Within s) ns × Apart ns
 
 -- events r, r + 1, .. with the numbers of the list
 abbrev pub pairs_from : ℕ → List ℕ → List (ℕ × ℕ)

@@ -1,6 +1,6 @@
 -- The search for a number for event r, as it stands after t numbers are done.
 use Rattle.std.specs.Prelude.{◌≡◌, ℕ, ◌+◌, ◌*◌, ◌<◌, ◌≤◌, Bool, true, false, List, length, Some, Option}
-use Rattle.std.specs.List.{AllByRecursion as All}
+use Rattle.std.specs.List.{AllByRecursion}
 use Rattle.costs.specs.Kind.{Kind, AtMost}
 use Rattle.costs.specs.Lists.{In, Apart}
 use Rattle.tables.specs.Table.{Within}
@@ -32,7 +32,7 @@ module _ {C : Type 0} (k : Kind C) (g : ℕ → ℕ → Grade C) (s : ℕ) where
     pub upto : (i : ℕ) → inside i ≡ true → Within s i × Joined seat r i
     pub many : length seen ≡ t
     pub apart : Apart seen
-    pub all_within : All (Within s) seen
+    pub all_within : AllByRecursion (Within s) seen
     pub seen_done : (c : ℕ) → In c seen → done c ≡ true
 
   -- the search goes on: what it keeps (done, path, by) belongs to some tree and trail over some seating

@@ -3,7 +3,7 @@
 ghost use Rattle.std.specs.Prelude.{◌≡◌, ◌*◌, ◌≤◌, length, take, drop, IfOk, Ok, vec_len};
 ghost use Rattle.tables.specs.Refusals.{told};
 ghost use Rattle.tables.specs.Table.{pair_at};
-ghost use Rattle.judge.specs.Allowed.{cost as cost-by};
+ghost use Rattle.judge.specs.Allowed.{cost as cost_by};
 ghost use Rattle.judge.specs.Grades.{Grid, grade_in};
 ghost use Rattle.judge.specs.Judging.{lists, Room, verdict_told, has_room, judge_answer, price_at, Left, Exact};
 ghost use Rattle.judge.specs.Least.{judged};
@@ -155,7 +155,7 @@ fn settle_pairs<C: Cost>(
     requires solvable { Solvable C.Cost.kind (grade_in grades.now size) size }
     requires room { (size ≤ length numbers.old) × (size ≤ length event_prices.old) × (size ≤ length number_prices.old) × (size ≤ length work.old) }
     ensures certified { Certified C.Cost.kind (grade_in grades.now size) size (take size numbers.new) (price_at C.Cost.kind event_prices.new) (price_at C.Cost.kind number_prices.new) }
-    ensures cost { result ≡ cost-by C.Cost.kind (grade_in grades.now size) (take size numbers.new) }
+    ensures cost { result ≡ cost_by C.Cost.kind (grade_in grades.now size) (take size numbers.new) }
     ensures beyond { (drop size numbers.new ≡ drop size numbers.old) × (drop size event_prices.new ≡ drop size event_prices.old) × (drop size number_prices.new ≡ drop size number_prices.old) }
 {
     let seats = settle(grades, size, number_prices, work);

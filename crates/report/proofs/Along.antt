@@ -1,6 +1,6 @@
 -- Outcomes as a function of their place: which hits there are, and how many of each sort.
 use Rattle.std.proofs.Common.{◌≡◌, ℕ, zero, suc, ◌+◌, ◌-◌, ◌<◌, ◌≤◌, List, [], ◌∷◌, map, length, take, sym, refl, ap, ◌∙◌, subst, inl, inr, ⊎_elim, arith}
-use Rattle.std.specs.List.{range_with_len, AllByRecursion as All}
+use Rattle.std.specs.List.{range_with_len, AllByRecursion}
 use Rattle.std.proofs.lemmas.Bool.{cases_eq}
 use Rattle.costs.specs.Kind.{Kind}
 use Rattle.costs.specs.Lists.{In}
@@ -27,7 +27,7 @@ outcomes_along k l f i (e ∷ es) h =
     let rest = outcomes_along k (after_feed l e) f (i + 1) es (λ j b. let next : i + suc j ≡ i + 1 + j = omega arith in h (suc j) (omega arith) ∙ ap f next) in
     λ z. (i, first z) ∷ rest z
 
-pub all_from_in : {X : Type 0} (P : X → Type 0) (xs : List X) → ((x : X) → In x xs → P x) → All P xs
+pub all_from_in : {X : Type 0} (P : X → Type 0) (xs : List X) → ((x : X) → In x xs → P x) → AllByRecursion P xs
 all_from_in P [] h = tt
 all_from_in P (x ∷ xs) h = (h x (inl refl), all_from_in P xs (λ y m. h y (inr m)))
 

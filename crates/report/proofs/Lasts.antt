@@ -1,7 +1,7 @@
 -- The window after some events of a log, when it was empty before them.
 use Rattle.std.proofs.Common.{◌≡◌, ℕ, ◌+◌, ◌-◌, ◌≤◌, Bool, true, false, cond, List, [], ◌∷◌, ◌++◌, length, take, drop, Some, None, sym, refl, ap, ◌∙◌, append_assoc, append-nil, arith, length-append, length-drop, drop-drop}
 use lib.Seq.{drop-append-le}
-use Rattle.std.specs.List.{AllByRecursion as All}
+use Rattle.std.specs.List.{AllByRecursion}
 use Rattle.std.proofs.lemmas.List.{drop-take, length-take-le}
 use Rattle.std.proofs.lemmas.Bool.{cond-true}
 use Rattle.tables.specs.Table.{Table, within, last}
@@ -28,7 +28,7 @@ last_length m xs = length-drop (length xs - m) xs
 
 -- events of which none is outside
 abbrev pub Inside : ℕ → List ℕ → Type 0
-Inside s es = All (λ (e : ℕ). within s e ≡ true) es
+Inside s es = AllByRecursion (λ (e : ℕ). within s e ≡ true) es
 
 pub inside_all : (s p : ℕ) (es : List ℕ) → first_outside s p es ≡ None → Inside s es
 inside_all s p [] h = tt

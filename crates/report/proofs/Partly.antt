@@ -1,6 +1,6 @@
 -- A report of the first events of a log.
 use Rattle.std.proofs.Common.{◌≡◌, ℕ, ◌+◌, ◌≤◌, List, [], ◌++◌, map, length, take, drop, None, sym, refl, ap, ◌∙◌, append_assoc, append-nil, arith, length-drop, drop-drop}
-use Rattle.std.specs.List.{AllByRecursion as All}
+use Rattle.std.specs.List.{AllByRecursion}
 use Rattle.std.proofs.lemmas.List.{drop_all}
 use Rattle.costs.specs.Kind.{Kind}
 use Rattle.watch.specs.Ledger.{Ledger}
@@ -17,7 +17,7 @@ use Rattle.report.proofs.Feeds.{feeds_join, inside_later}
 pub record Partly {C : Type 0} (k : Kind C) (l here : Ledger C) (log : List ℕ) (fed : ℕ) (found : List (Hit C)) (windows : ℕ × ℕ × ℕ) : Type 0 where
   pub hits : hits_in (outcomes_from k l 1 log) ≡ map hit_at found ++ hits_in (outcomes_from k here (fed + 1) (drop fed log))
   pub counts : tally (outcomes_from k l 1 log) ≡ sum3 windows (tally (outcomes_from k here (fed + 1) (drop fed log)))
-  pub numbers : All (Numbered k l log) found
+  pub numbers : AllByRecursion (Numbered k l log) found
   pub ledger : here ≡ after_feeds l (take fed log)
   pub inside : first_outside l.table.size 1 log ≡ first_outside l.table.size (fed + 1) (drop fed log)
   pub few : windows.0 + windows.1 + windows.2 ≤ fed
@@ -52,7 +52,7 @@ module _ {C : Type 0} (k : Kind C) (l here next : Ledger C) (log : List ℕ) (fe
   abbrev w : Next C
   w = walk k here (drop fed log)
 
-  module _ (goes : next ≡ after_feeds here (take w.fed (drop fed log))) (adds : map hit_at found' ≡ map hit_at found ++ listed_hit (fed + w.fed) w.hit) (numbered : All (Numbered k l log) found') where
+  module _ (goes : next ≡ after_feeds here (take w.fed (drop fed log))) (adds : map hit_at found' ≡ map hit_at found ++ listed_hit (fed + w.fed) w.hit) (numbered : AllByRecursion (Numbered k l log) found') where
     same_later : later k here (drop fed log) fed w.fed ≡ outcomes_from k next (fed + w.fed + 1) (drop (fed + w.fed) log)
     same_later = λ i. outcomes_from k (sym goes i) (fed + w.fed + 1) (drop-drop w.fed fed log i)
 

@@ -1,7 +1,7 @@
 -- One turn from hit to hit.
 use Rattle.std.proofs.Common.{◌≡◌, ℕ, ◌+◌, ◌-◌, ◌<◌, ◌≤◌, true, List, [], ◌∷◌, ◌++◌, map, length, take, drop, Some, None, Ok, Err, vec_items, Option, sym, refl, ap, ◌∙◌, subst, arith, length-drop}
 use mathlib.Core.List.{map-append}
-use Rattle.std.specs.List.{AllByRecursion as All}
+use Rattle.std.specs.List.{AllByRecursion}
 use Rattle.std.proofs.ByRecursion.{All-append}
 use Rattle.costs.specs.Kind.{Kind}
 use Rattle.judge.specs.Judging.{Lists}
@@ -23,7 +23,7 @@ never : {X : Type 0} → ◌≡◌ {A = ℕ} 0 1 → X
 never z = absurd (omega arith)
 
 -- a hit that was kept has its numbers
-new_numbered : {C : Type 0} (k : Kind C) (l : Ledger C) (log : List ℕ) (end : ℕ) (hit : Option C) (ns : List ℕ) (new : List (Hit C)) → map hit_at new ≡ listed_hit end hit → All (λ (h : Hit C). vec_items h.numbers ≡ ns) new → ((c : C) → hit ≡ Some c → Cheapest k (standing (after_feeds l (take end log))) c ns) → All (Numbered k l log) new
+new_numbered : {C : Type 0} (k : Kind C) (l : Ledger C) (log : List ℕ) (end : ℕ) (hit : Option C) (ns : List ℕ) (new : List (Hit C)) → map hit_at new ≡ listed_hit end hit → AllByRecursion (λ (h : Hit C). vec_items h.numbers ≡ ns) new → ((c : C) → hit ≡ Some c → Cheapest k (standing (after_feeds l (take end log))) c ns) → AllByRecursion (Numbered k l log) new
 new_numbered k l log end hit ns [] places own cheapest = tt
 new_numbered k l log end None ns (h ∷ hs) places own cheapest = never cc
 new_numbered k l log end (Some c) ns (h ∷ g ∷ hs) places own cheapest = never cc
@@ -105,10 +105,10 @@ module _ {C : Type 0} (k : Kind C) (l here : Ledger C) (log : List ℕ) (fed : �
     goes_on fed-to walked kept =
         let led : next ≡ after_w = fed-to ∙ ap (λ (es : List ℕ). after_feeds here (take w.fed es)) rest in
         let walked_on : Walked k here (drop fed log) before after = subst (λ (es : List ℕ). Walked k here es before after) rest walked in
-        let own : All (λ (h : Hit C). vec_items h.numbers ≡ take l.table.size after.numbers) kept.new =
-        subst (λ (m : ℕ). All (λ (h : Hit C). vec_items h.numbers ≡ take m after.numbers) kept.new) sized kept.own in
-        let new : All (Numbered k l log) kept.new = new_numbered k l log (fed + w.fed) w.hit (take l.table.size after.numbers) kept.new kept.places own (cheapest_at after walked_on) in
-        let numbered : All (Numbered k l log) found' = subst (All (Numbered k l log)) (sym kept.added) (All-append (Numbered k l log) found kept.new partly.numbers new) in
+        let own : AllByRecursion (λ (h : Hit C). vec_items h.numbers ≡ take l.table.size after.numbers) kept.new =
+        subst (λ (m : ℕ). AllByRecursion (λ (h : Hit C). vec_items h.numbers ≡ take m after.numbers) kept.new) sized kept.own in
+        let new : AllByRecursion (Numbered k l log) kept.new = new_numbered k l log (fed + w.fed) w.hit (take l.table.size after.numbers) kept.new kept.places own (cheapest_at after walked_on) in
+        let numbered : AllByRecursion (Numbered k l log) found' = subst (AllByRecursion (Numbered k l log)) (sym kept.added) (All-append (Numbered k l log) found kept.new partly.numbers new) in
         let adds : map hit_at found' ≡ map hit_at found ++ listed_hit (fed + w.fed) w.hit =
         ap (map hit_at) kept.added ∙ map-append hit_at found kept.new ∙ ap (λ (xs : List (ℕ × C)). map hit_at found ++ xs) kept.places in
         partly_more k l here next log fed found found' windows partly free led adds numbered

@@ -1,6 +1,6 @@
 -- What a report says of a log.
 use Rattle.std.specs.Prelude.{◌≡◌, ℕ, true, List, [], ◌∷◌, ◌++◌, map, take, Some, None, vec_items, Option}
-use Rattle.std.specs.List.{AllByRecursion as All}
+use Rattle.std.specs.List.{AllByRecursion}
 use Rattle.costs.specs.Kind.{Kind, AtMost}
 use Rattle.tables.specs.Table.{Table, pair_at}
 use Rattle.judge.specs.Allowed.{allowed, cost}
@@ -32,7 +32,7 @@ Numbered k l log h = Cheapest k (standing (after_feeds l (take h.end log))) h.co
 pub record Reported {C : Type 0} (k : Kind C) (l : Ledger C) (log : List ℕ) (r : Report C) : Type 0 where
   pub hits : map hit_at (vec_items r.hits) ≡ hits_in (outcomes_from k l 1 log)
   pub counts : r.counts ≡ tally (outcomes_from k l 1 log)
-  pub numbers : All (Numbered k l log) (vec_items r.hits)
+  pub numbers : AllByRecursion (Numbered k l log) (vec_items r.hits)
 
 -- the hit of a walk, if it has one
 abbrev pub listed_hit : {C : Type 0} → ℕ → Option C → List (ℕ × C)
@@ -44,7 +44,7 @@ pub record Kept {C : Type 0} (end : ℕ) (hit : Option C) (numbers : List ℕ) (
   pub new : List (Hit C)
   pub added : after ≡ before ++ new
   pub places : map hit_at new ≡ listed_hit end hit
-  pub own : All (λ (h : Hit C). vec_items h.numbers ≡ numbers) new
+  pub own : AllByRecursion (λ (h : Hit C). vec_items h.numbers ≡ numbers) new
 
 -- why there is none: an event of the log is refused with 5 at its position, or there was no memory
 abbrev pub NotReported : {C : Type 0} → Ledger C → List ℕ → ReportError → Type 0

@@ -1,6 +1,6 @@
 -- What a report says of the windows of a log, when the watch's own window was empty before it. Positions count from 1.
 use Rattle.std.specs.Prelude.{◌≡◌, ℕ, ◌+◌, ◌-◌, ◌<◌, ◌≤◌, List, [], ◌∷◌, map, length, take, drop, vec_items}
-use Rattle.std.specs.List.{range_with_len, AllByRecursion as All}
+use Rattle.std.specs.List.{range_with_len, AllByRecursion}
 use Rattle.costs.specs.Kind.{Kind}
 use Rattle.costs.specs.Lists.{In}
 use Rattle.tables.specs.Table.{Table, with_window, pair_at}
@@ -49,7 +49,7 @@ begins m r = map (begin_of m) (vec_items r.hits)
 -- each entry is below all that come after it
 abbrev pub Rising : List ℕ → Type 0
 Rising [] = Unit {0}
-Rising (p ∷ ps) = All (λ q. p < q) ps × Rising ps
+Rising (p ∷ ps) = AllByRecursion (λ q. p < q) ps × Rising ps
 
 -- how many of the verdicts at these positions are within the bound, over it, and none
 abbrev pub verdict_tally : {C : Type 0} → (ℕ → Verdict C) → List ℕ → ℕ × ℕ × ℕ
@@ -62,7 +62,7 @@ pub record AllWindows {C : Type 0} (k : Kind C) (l : Ledger C) (log : List ℕ) 
   pub rising : Rising (begins l.table.places r)
   pub found : (p : ℕ) → In p (begins l.table.places r) → Full l.table.places log p × Affordable k (pairs_on l log p) l.bound
   pub none_missing : (p : ℕ) → Full l.table.places log p → Affordable k (pairs_on l log p) l.bound → In p (begins l.table.places r)
-  pub numbers : All (λ (h : Hit C). Cheapest k (pairs_on l log (begin_of l.table.places h)) h.cost (vec_items h.numbers)) (vec_items r.hits)
+  pub numbers : AllByRecursion (λ (h : Hit C). Cheapest k (pairs_on l log (begin_of l.table.places h)) h.cost (vec_items h.numbers)) (vec_items r.hits)
   pub within : r.counts.0 ≡ length (vec_items r.hits)
   pub windows : r.counts.0 + r.counts.1 + r.counts.2 ≡ full_windows l.table.places log
   pub counts : r.counts ≡ verdict_tally (verdict_on k l log) (range_with_len 1 (full_windows l.table.places log))

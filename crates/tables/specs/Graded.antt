@@ -1,7 +1,7 @@
 -- The grade of a pair as a sum over the places of a window.
 use Rattle.std.specs.Prelude.{◌≡◌, ℕ, suc, ◌+◌, ◌*◌, ◌<◌, ◌≤◌, Bool, true, false, cond, List, [], ◌∷◌, length, drop, ◌==◌, ◌≢◌, slice_index, slice_index_or}
 use Rattle.std.proofs.Common.{◌∙◌, ap, arith}
-use Rattle.std.specs.List.{AllByRecursion as All}
+use Rattle.std.specs.List.{AllByRecursion}
 use Rattle.std.proofs.lemmas.List.{drop_more}
 use Rattle.std.proofs.lemmas.Bool.{eq-eqb, ne_eqb, cond-true, cond-false}
 use Rattle.costs.specs.Kind.{Kind, Laws, limit}
@@ -26,7 +26,7 @@ module _ {C : Type 0} (k : Kind C) (laws : Laws k) where
   place_span n g h true f s t = widen (max_size + max_size * n) (max_size * suc n) _ (omega arith) (add_span max_size (max_size * n) g h (omega arith) s t)
   place_span n g h false f s t = widen (max_size * n) (max_size * suc n) h (omega arith) t
 
-  pub graded_span : (price : ℕ → ℕ → Grade C) (r c : ℕ) → ((p : ℕ) → p ≤ max_size → Spans k max_size (price p c)) → (ps es : List ℕ) → length es ≤ max_places → All (λ p. p ≤ max_size) ps → Spans k (max_size * length es) (graded k price ps es r c)
+  pub graded_span : (price : ℕ → ℕ → Grade C) (r c : ℕ) → ((p : ℕ) → p ≤ max_size → Spans k max_size (price p c)) → (ps es : List ℕ) → length es ≤ max_places → AllByRecursion (λ p. p ≤ max_size) ps → Spans k (max_size * length es) (graded k price ps es r c)
   graded_span price r c small ps [] f t = let z = laws.zero_span in omega arith
   graded_span price r c small [] (e ∷ es) f t = let z = laws.zero_span in omega arith
   graded_span price r c small (p ∷ ps) (e ∷ es) f t =

@@ -1,7 +1,7 @@
 -- What a summing table holds: as many trace numbers as places, and events that are 1 to S.
 use Rattle.std.specs.Prelude.{◌≡◌, ℕ, ◌-◌, ◌*◌, ◌<◌, ◌≤◌, true, [], ◌∷◌, ◌++◌, length, take, slice_index}
 use Rattle.std.proofs.Common.{arith}
-use Rattle.std.specs.List.{AllByRecursion as All}
+use Rattle.std.specs.List.{AllByRecursion}
 use Rattle.std.proofs.ByRecursion.{All-from_get_or, All-get_or, All-push, All-drop}
 use Rattle.std.proofs.lemmas.List.{get_or-take, length-take-le}
 use Rattle.std.proofs.lemmas.Bool.Decides.{nat_tests}
@@ -29,10 +29,10 @@ module _ {P : Type 0} (t : Summed P) where
   pub number_at : (j : ℕ) → j < t.window.places → slice_index (take t.window.places t.trace) j ≡ slice_index t.trace j
   number_at j h = get_or-take t.window.places t.trace j 0 h
 
-  all_events : All (Within t.size) (ring_events t.window)
+  all_events : AllByRecursion (Within t.size) (ring_events t.window)
   all_events = All-from_get_or (Within t.size) (ring_events t.window) 0 t.events
 
-  all_numbers : All (λ p. p ≤ max_size) (take t.window.places t.trace)
+  all_numbers : AllByRecursion (λ p. p ≤ max_size) (take t.window.places t.trace)
   all_numbers =
       All-from_get_or (λ p. p ≤ max_size) (take t.window.places t.trace) 0
       (λ i h.

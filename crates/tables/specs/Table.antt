@@ -1,6 +1,6 @@
 -- What a trace table means.
 use Rattle.std.specs.Prelude.{◌≡◌, ℕ, ◌+◌, ◌-◌, ◌*◌, ◌≤◌, Bool, cond, ◌&&◌, List, [], ◌∷◌, ◌++◌, map, length, drop, Ok, Err, Result, nat_le, slice_index_or}
-use Rattle.std.specs.List.{range_with_len, AllByRecursion as All}
+use Rattle.std.specs.List.{range_with_len, AllByRecursion}
 use Rattle.costs.specs.Kind.{Kind}
 use Rattle.tables.specs.Limits.{max_size, max_places, pair_limit}
 use Rattle.tables.specs.declared.grade.Grade.{Grade}
@@ -25,7 +25,7 @@ within s n = nat_le 1 n && nat_le n s
 -- a list that can be a window: at most M events, each 1 to S
 pub record Window (size places : ℕ) (w : List ℕ) : Type 0 where
   pub few : length w ≤ places
-  pub events : All (Within size) w
+  pub events : AllByRecursion (Within size) w
 
 -- a grade that is closed, or open at a cost of at most that span
 abbrev pub Spans : {C : Type 0} → Kind C → ℕ → Grade C → Type 0

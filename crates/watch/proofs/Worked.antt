@@ -1,6 +1,6 @@
 -- The worked cases, by trying all renumberings.
 use Rattle.std.proofs.Common.{◌≡◌, ℕ, Bool, true, false, cond, ◌&&◌, T, eqb, leb, List, [], ◌∷◌, length, Ok, Err, filter, Result, sym, refl, ap, ◌∙◌, subst, inl, inr, lit<}
-use Rattle.std.specs.List.{AllByRecursion as All}
+use Rattle.std.specs.List.{AllByRecursion}
 use Rattle.std.proofs.lemmas.Bool.{eqb-true, le-leb, and_parts, and_from}
 use Rattle.costs.specs.Kind.{Kind, Laws, AtMost}
 use Rattle.costs.specs.Lists.{In}
@@ -19,7 +19,7 @@ use Rattle.judge.proofs.Violators.{in_kept}
 use Rattle.watch.specs.Cases.{WorkedCases, Says, Fit, AllFits, fed, plain_pairs, two_plain, by_difference, by_mismatch, by_mixed, six_events, one_event, three_events, two_events, two_feeds, with_pin, pin_removed}
 use Rattle.watch.specs.Ledger.{Ledger, standing}
 
-all_from : {X : Type 0} (P : X → Type 0) (xs : List X) → ((x : X) → In x xs → P x) → All P xs
+all_from : {X : Type 0} (P : X → Type 0) (xs : List X) → ((x : X) → In x xs → P x) → AllByRecursion P xs
 all_from P [] f = tt
 all_from P (x ∷ xs) f = (f x (inl refl), all_from P xs (λ y m. f y (inr m)))
 

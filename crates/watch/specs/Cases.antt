@@ -1,6 +1,6 @@
 -- Ten worked cases: small windows, and what the ledger says of each.
 use Rattle.std.specs.Prelude.{◌≡◌, ℕ, true, List, [], ◌∷◌, map, None, Ok, Err, Option, Result}
-use Rattle.std.specs.List.{AllByRecursion as All}
+use Rattle.std.specs.List.{AllByRecursion}
 use Rattle.costs.specs.Kind.{Kind}
 use Rattle.costs.specs.Lists.{In}
 use Rattle.costs.specs.Pair.{pair_kind, both}
@@ -47,7 +47,7 @@ pub record Fit {C : Type 0} (k : Kind C) (l : Ledger C) (c : C) (numbers : List 
 
 -- the allowed renumberings of that cost are those of the list and no others, so at the least cost a judge gives one of them
 pub record AllFits {C : Type 0} (k : Kind C) (l : Ledger C) (c : C) (found : List (List ℕ)) : Type 0 where
-  pub each : All (Fit k l c) found
+  pub each : AllByRecursion (Fit k l c) found
   pub no_other : (numbers : List ℕ) → Fit k l c numbers → In numbers found
 
 -- the marked events have too few open numbers

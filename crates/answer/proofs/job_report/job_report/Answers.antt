@@ -3,7 +3,7 @@ use Rattle.std.specs.declared.alloc.AllocError.{AllocError}
 use Rattle.std.specs.declared.alloc.Global.{Global}
 use Rattle.std.proofs.lemmas.Result.{IfOk-weaker}
 use Rattle.std.proofs.lemmas.Bool.Decides.{nat_tests}
-use Rattle.std.specs.List.{AllByRecursion as All}
+use Rattle.std.specs.List.{AllByRecursion}
 use Rattle.costs.specs.Kind.{Kind as Cost}
 use Rattle.costs.specs.Pair.{both, pair_kind}
 use Rattle.costs.specs.Plain.{plain_kind, plain_of}
@@ -29,7 +29,7 @@ delta_fits n h = grind (arith, nat_tests)
 pub report_with-requires : goal.report_with-requires
 report_with-requires c =
     let content = content_of c.args.job.now c.args.log.now in
-    let all = subst (λ (k : Kind). All (λ n. n ≤ max_number) (bounds_of k)) c.in-Mismatch.is c.requires.bounds in
+    let all = subst (λ (k : Kind). AllByRecursion (λ n. n ≤ max_number) (bounds_of k)) c.in-Mismatch.is c.requires.bounds in
     record {
       sized = size_fits content c.requires;
       traced = trace_fits content c.requires;
@@ -41,7 +41,7 @@ report_with-requires c =
 pub report_with-requires-in-Difference : goal.report_with-requires-in-Difference
 report_with-requires-in-Difference c =
     let content = content_of c.args.job.now c.args.log.now in
-    let all = subst (λ (k : Kind). All (λ n. n ≤ max_number) (bounds_of k)) c.in-Difference.is c.requires.bounds in
+    let all = subst (λ (k : Kind). AllByRecursion (λ n. n ≤ max_number) (bounds_of k)) c.in-Difference.is c.requires.bounds in
     let delta = subst (λ (k : Kind). delta_of k ≤ max_delta) c.in-Difference.is c.requires.delta in
     record {
       sized = size_fits content c.requires;
@@ -54,7 +54,7 @@ report_with-requires-in-Difference c =
 pub report_with-requires-in-Mixed : goal.report_with-requires-in-Mixed
 report_with-requires-in-Mixed c =
     let content = content_of c.args.job.now c.args.log.now in
-    let all = subst (λ (k : Kind). All (λ n. n ≤ max_number) (bounds_of k)) c.in-Mixed.is c.requires.bounds in
+    let all = subst (λ (k : Kind). AllByRecursion (λ n. n ≤ max_number) (bounds_of k)) c.in-Mixed.is c.requires.bounds in
     let delta = subst (λ (k : Kind). delta_of k ≤ max_delta) c.in-Mixed.is c.requires.delta in
     record {
       sized = size_fits content c.requires;
