@@ -76,3 +76,13 @@ module _ {C : Type 0} (k : Kind C) (laws : Laws k) where
       laws.order_antisym u (k.minus x v)
       (solve k laws (λ n. get_or (u ∷ v ∷ x ∷ []) n k.zero) ((at 0 ⊕ at 1, at 2) ∷ []) (at 0) (at 2 ⊖ at 1) refl (omega arith) (le_of_eq k laws (k.plus u v) x h, tt))
       (solve k laws (λ n. get_or (u ∷ v ∷ x ∷ []) n k.zero) ((at 2, at 0 ⊕ at 1) ∷ []) (at 2 ⊖ at 1) (at 0) refl (omega arith) (le_of_eq k laws x (k.plus u v) (sym h), tt))
+
+  -- an event that takes a free number at cost x: no pair of it is undercut
+  pub seat_under : (x y v : C) → Small k x → Small k y → Small k v → AtMost k x (k.minus y v) → AtMost k (k.plus x v) y
+  seat_under x y v sx sy sv h = solve k laws (λ n. get_or (x ∷ y ∷ v ∷ []) n k.zero) ((at 0, at 1 ⊖ at 2) ∷ []) (at 0 ⊕ at 2) (at 1) refl (omega arith) (h, tt)
+
+  -- .. where numbers have no prices yet, by the costs alone
+  pub no_price : (x y v : C) → Small k x → Small k y → v ≡ k.zero → AtMost k x y → AtMost k x (k.minus y v)
+  no_price x y v sx sy z h =
+      subst (λ w. AtMost k x (k.minus y w)) (sym z)
+      (solve k laws (λ n. get_or (x ∷ y ∷ []) n k.zero) ((at 0, at 1) ∷ []) (at 0) (at 1 ⊖ none) refl (omega arith) (h, tt))

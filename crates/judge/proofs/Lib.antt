@@ -32,6 +32,7 @@ pub mod Turned
 pub mod Written
 pub mod OpenRows
 pub mod GradedPairs
+pub mod RowReads
 pub mod Reports
 pub mod Agreeing
 pub mod Verdicts

@@ -27,6 +27,9 @@ module _ {C : Type 0} (grades : List (Grade C)) where
     pub bits : (c : ℕ) → Within n c → stands_in row c ≡ is_open (listed grades Closed c)
     pub small : row < 2 ^ n
 
+  pub open_none : OpenTo 0 0
+  open_none = record { bits = λ c w. absurd (omega (arith, w)); small = omega arith }
+
   -- the grade at place n, as that of number n + 1
   at_place : (n : ℕ) (x : Grade C) → x ≡ get_or grades n Closed → is_open x ≡ is_open (listed grades Closed (n + 1))
   at_place n x e = ap is_open (e ∙ sym (listed_next grades Closed n))

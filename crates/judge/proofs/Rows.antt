@@ -77,19 +77,19 @@ module _ {C : Type 0} (k : Kind C) (g : ℕ → ℕ → Grade C) (i : ℕ) (l : 
     over_keep (found_by k g i l done old old-by) old-by j by over_by (sym (ap (λ b. cond b (old-by (suc j)) (cond (better k (old (suc j)) (g i (suc j)) l) i (old-by (suc j)))) e)),
   )
 
-  module _ (e : done (suc j) ≡ false) (known : Option C) (Known-is : known ≡ path (suc j)) (y : Grade C) (y-is : y ≡ g i (suc j)) where
+  module _ (e : done (suc j) ≡ false) (known : Option C) (known_is : known ≡ path (suc j)) (y : Grade C) (y_is : y ≡ g i (suc j)) where
     old-is : known ≡ old (suc j)
-    old-is = Known-is ∙ (over (suc j) (omega arith)).1 (omega arith)
+    old-is = known_is ∙ (over (suc j) (omega arith)).1 (omega arith)
 
     path-new : gone_over k g i l done old (suc j) ≡ relax k known y l
     path-new =
         ap (λ b. cond b (old (suc j)) (relax k (old (suc j)) (g i (suc j)) l)) e
-        ∙ ap (λ o. relax k o (g i (suc j)) l) (sym old-is) ∙ ap (λ z. relax k known z l) (sym y-is)
+        ∙ ap (λ o. relax k o (g i (suc j)) l) (sym old-is) ∙ ap (λ z. relax k known z l) (sym y_is)
 
     by-new : found_by k g i l done old old-by (suc j) ≡ cond (better k known y l) i (old-by (suc j))
     by-new =
         ap (λ b. cond b (old-by (suc j)) (cond (better k (old (suc j)) (g i (suc j)) l) i (old-by (suc j)))) e
-        ∙ ap (λ o. cond (better k o (g i (suc j)) l) i (old-by (suc j))) (sym old-is) ∙ ap (λ z. cond (better k known z l) i (old-by (suc j))) (sym y-is)
+        ∙ ap (λ o. cond (better k o (g i (suc j)) l) i (old-by (suc j))) (sym old-is) ∙ ap (λ z. cond (better k known z l) i (old-by (suc j))) (sym y_is)
 
     pub relax_none : None ≡ shorter k known y l → GoneTo (j + 1) path by
     relax_none m =

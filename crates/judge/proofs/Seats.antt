@@ -1,12 +1,13 @@
--- Seatings: what follows at once, and the one with nobody seated.
-use Rattle.std.proofs.Common.{◌≡◌, ℕ, ◌≤◌, sym, refl, ap, ◌∙◌, arith}
-use Rattle.costs.specs.Kind.{Kind, Laws}
+-- Seatings: what follows at once, the one with nobody seated, and a free number taken without a search.
+use Rattle.std.proofs.Common.{◌≡◌, ℕ, ◌≤◌, ◌⊎◌, sym, refl, ap, ◌∙◌, subst, inl, inr, ⊎_elim, arith}
+use Rattle.costs.specs.Kind.{Kind, Laws, AtMost}
 use Rattle.tables.specs.Table.{Within}
 use Rattle.tables.specs.declared.grade.Grade.{Grade}
 use Rattle.tables.specs.declared.grade.Grade.TheVariants.{Open}
 use Rattle.judge.specs.Prices.{Bounded}
-use Rattle.judge.specs.Seating.{Seating}
-use Rattle.judge.proofs.Cells.{price_back}
+use Rattle.judge.specs.Seating.{Small, put, Fit, Seating, SeatsOneMore}
+use Rattle.judge.proofs.Cells.{price_back, seat_under}
+use Rattle.judge.proofs.Puts.{put_here, put_there, at_put}
 
 module _ {C : Type 0} (k : Kind C) (g : ℕ → ℕ → Grade C) (s : ℕ) (seat h : ℕ → ℕ) (u v : ℕ → C) (seating : Seating k g s seat h u v) where
   -- the holder of a number is seated
@@ -51,3 +52,78 @@ module _ {C : Type 0} (k : Kind C) (laws : Laws k) (g : ℕ → ℕ → Grade C)
     small_u = λ i w o. absurd (omega arith);
     small_v = λ c w. omega (arith, laws.zero_span);
   }
+
+  -- event r takes the free number c, of the least key among its open numbers
+  module _ (bounded : Bounded k g s) (seat h : ℕ → ℕ) (u v : ℕ → C) (seating : Seating k g s seat h u v) (r : ℕ) (ri : Within s r) (rfree : seat r ≡ 0)
+      (c : ℕ) (cw : Within s c) (cfree : h c ≡ 0) (x : C) (rc : g r c ≡ Open x)
+      (nearest : (d : ℕ) → Within s d → (y : C) → g r d ≡ Open y → AtMost k x (k.minus y (v d))) where
+    abbrev seat' : ℕ → ℕ
+    seat' = put seat r c
+
+    abbrev h' : ℕ → ℕ
+    h' = put h c r
+
+    abbrev u' : ℕ → C
+    u' = put u r x
+
+    sx : Small k x
+    sx = omega (arith, bounded r c ri cw x rc)
+
+    -- a seated event does not have c
+    away : (i : ℕ) → Within s i → 1 ≤ seat i → seat i ≡ c → ⊥
+    away i iw o e = omega (arith, iw, ap h e, seating.seat_holder i iw o, cfree)
+
+    seat-holder' : (i : ℕ) → Within s i → 1 ≤ seat' i → h' (seat' i) ≡ i
+    seat-holder' i iw o = go (at_put seat r c i)
+      where
+        go : ((i ≡ r) × (seat' i ≡ c)) ⊎ ((i ≡ r → ⊥) × (seat' i ≡ seat i)) → h' (seat' i) ≡ i
+        go (inl q) = ap h' q.1 ∙ put_here h c r ∙ sym q.0
+        go (inr q) =
+            let o' : 1 ≤ seat i = omega (arith, q.1, o) in
+            ap h' q.1 ∙ put_there h c r (seat i) (away i iw o') ∙ seating.seat_holder i iw o'
+
+    holder-seat' : (d : ℕ) → Within s d → 1 ≤ h' d → seat' (h' d) ≡ d
+    holder-seat' d dw o = go (at_put h c r d)
+      where
+        go : ((d ≡ c) × (h' d ≡ r)) ⊎ ((d ≡ c → ⊥) × (h' d ≡ h d)) → seat' (h' d) ≡ d
+        go (inl q) = ap seat' q.1 ∙ put_here seat r c ∙ sym q.0
+        go (inr q) = ap seat' q.1 ∙ put_there seat r c (h d) (fresh k g s seat h u v seating r ri rfree d dw) ∙ seating.holder_seat d dw (omega (arith, q.1, o))
+
+    under' : (i d : ℕ) → Within s i → 1 ≤ seat' i → Within s d → (y : C) → g i d ≡ Open y → AtMost k (k.plus (u' i) (v d)) y
+    under' i d iw o dw y e = go (at_put u r x i)
+      where
+        go : ((i ≡ r) × (u' i ≡ x)) ⊎ ((i ≡ r → ⊥) × (u' i ≡ u i)) → AtMost k (k.plus (u' i) (v d)) y
+        go (inl q) =
+            let e' : g r d ≡ Open y = ap (λ (z : ℕ). g z d) (sym q.0) ∙ e in
+            subst (λ z. AtMost k (k.plus z (v d)) y) (sym q.1) (seat_under k laws x y (v d) sx (omega (arith, bounded i d iw dw y e)) (seating.small_v d dw) (nearest d dw y e'))
+        go (inr q) = subst (λ z. AtMost k (k.plus z (v d)) y) (sym q.1) (seating.under i d iw (omega (arith, put_there seat r c i q.0, o)) dw y e)
+
+    tight' : (d : ℕ) → Within s d → 1 ≤ h' d → Fit k g s u' v (h' d) d
+    tight' d dw o = go (at_put h c r d)
+      where
+        go : ((d ≡ c) × (h' d ≡ r)) ⊎ ((d ≡ c → ⊥) × (h' d ≡ h d)) → Fit k g s u' v (h' d) d
+        go (inl q) =
+            subst (λ (i : ℕ). Fit k g s u' v i d) (sym q.1) (subst (λ (n : ℕ). Fit k g s u' v r n) (sym q.0)
+            (x, rc, ap (λ z. k.plus z (v c)) (put_here u r x) ∙ ap (k.plus x) (seating.free c cw cfree) ∙ laws.plus_zero x (omega (arith, laws.zero_span, sx))))
+        go (inr q) =
+            let t = seating.tight d dw (omega (arith, q.1, o)) in
+            subst (λ (i : ℕ). Fit k g s u' v i d) (sym q.1) (t.0, t.1, ap (λ z. k.plus z (v d)) (put_there u r x (h d) (fresh k g s seat h u v seating r ri rfree d dw)) ∙ t.2)
+
+    pub seat_free : Seating k g s (put seat r c) (put h c r) (put u r x) v × SeatsOneMore k g s seat r (put seat r c)
+    seat_free = (
+      record {
+        seat_within = λ i w. ⊎_elim (λ (q : (i ≡ r) × (seat' i ≡ c)). omega (arith, q.1, cw)) (λ (q : (i ≡ r → ⊥) × (seat' i ≡ seat i)). omega (arith, q.1, seating.seat_within i w)) (at_put seat r c i);
+        holder_within = λ d w. ⊎_elim (λ (q : (d ≡ c) × (h' d ≡ r)). omega (arith, q.1, ri)) (λ (q : (d ≡ c → ⊥) × (h' d ≡ h d)). omega (arith, q.1, seating.holder_within d w)) (at_put h c r d);
+        seat_holder = seat-holder';
+        holder_seat = holder-seat';
+        under = under';
+        tight = tight';
+        free = λ d w z. ⊎_elim (λ (q : (d ≡ c) × (h' d ≡ r)). absurd (omega (arith, q.1, z, ri))) (λ (q : (d ≡ c → ⊥) × (h' d ≡ h d)). seating.free d w (sym q.1 ∙ z)) (at_put h c r d);
+        small_u = λ i w o. ⊎_elim (λ (q : (i ≡ r) × (u' i ≡ x)). subst (Small k) (sym q.1) sx) (λ (q : (i ≡ r → ⊥) × (u' i ≡ u i)). subst (Small k) (sym q.1) (seating.small_u i w (omega (arith, put_there seat r c i q.0, o)))) (at_put u r x i);
+        small_v = seating.small_v;
+      },
+      λ i w. (
+        (λ m. ⊎_elim (λ (q : (i ≡ r) × (seat' i ≡ c)). omega (arith, q.1, cw)) (λ (q : (i ≡ r → ⊥) × (seat' i ≡ seat i)). ⊎_elim (λ (z : i ≡ r). absurd (q.0 z)) (λ (z : 1 ≤ seat i). omega (arith, q.1, z)) m) (at_put seat r c i)),
+        (λ o. ⊎_elim (λ (q : (i ≡ r) × (seat' i ≡ c)). inl q.0) (λ (q : (i ≡ r → ⊥) × (seat' i ≡ seat i)). inr (omega (arith, q.1, o))) (at_put seat r c i)),
+      ),
+    )

@@ -5,20 +5,20 @@
 ghost use Rattle.std.specs.Prelude.{◌≤◌, length, IfOk};
 
 use answer::{Answer, answer_text};
-use anyhow::anyhow;
 use job::{MAX_LOG, MAX_TEXT};
 use std::io;
 use std::io::{Read, Write};
+use std::process::ExitCode;
 
 // Room for one byte more than a text may have, so that a longer one is seen to be too long.
 const ROOM: usize = MAX_TEXT + 1;
 
-fn main(rt: HostRuntime) -> anyhow::Result<()> {
-    match run(&rt) {
-        Ok(true) => Ok(()),
+fn main(rt: HostRuntime) -> anyhow::Result<ExitCode> {
+    if run(&rt)? {
+        Ok(ExitCode::SUCCESS)
+    } else {
         // the fault line says it all
-        Ok(false) => Err(anyhow!("the job is faulty")),
-        Err(error) => Err(error),
+        Ok(ExitCode::FAILURE)
     }
 }
 

@@ -8,7 +8,7 @@ pub offset_bounds-grades-event : goal.offset_bounds-grades-event
 offset_bounds-grades-event g c = omega (arith, in_grid c.args.grades.now c.args.size c.args.event c.args.place c.requires.grid c.requires.event c.requires.place)
 
 pub bounds-grades-event : goal.bounds-grades-event
-bounds-grades-event g c = in_grid c.args.grades.now c.args.size c.args.event c.args.place c.requires.grid c.requires.event c.requires.place
+bounds-grades-event g c = omega (arith, in_grid c.args.grades.now c.args.size c.args.event c.args.place c.requires.grid c.requires.event c.requires.place)
 
 pub returns : goal.returns
 returns g c =
