@@ -1,5 +1,5 @@
-// The method of this repository's judge, step by step, in plain C++ with no proofs and no range checks: a row of grades
-// for each event by one walk over the window, bit rows for existence, then shortest augmenting paths with number prices.
+// The method of this repository's judge, step by step but for two later short cuts (README), in plain C++ with no proofs
+// and no range checks: a row of grades for each event by one walk over the window, bit rows for existence, then shortest augmenting paths with number prices.
 // It reads the same parameters and prints the same line as the program judgebench, so that counts and costs can be
 // compared. (bitset.cpp is a variant with one walk for all rows and bit sets in place of flags.)
 #include <cstdint>
