@@ -1,18 +1,12 @@
 -- The bytes of an answer.
 use Rattle.std.specs.Prelude.{ℕ, ◌+◌, List, [], ◌∷◌, ◌++◌, map, ℤ, vec_items, codes, decimal}
 use Rattle.std.specs.Fmt.{signed_decimal}
+use Rattle.std.specs.List.{flat_map}
 use Rattle.lines.specs.Lines.{line}
 use Rattle.report.specs.Windows.{begin_of}
 use Rattle.report.specs.declared.Hit.{Hit}
 use Rattle.report.specs.declared.Report.{Report}
-use Rattle.job.specs.Faults.{Finding}
-use Rattle.job.specs.declared.fault.Layer.{Layer}
-use Rattle.job.specs.declared.fault.Layer.TheVariants.{Text, Job, Watch}
-
-abbrev pub layer_word : Layer → List ℕ
-layer_word Text = codes "text"
-layer_word Job = codes "job"
-layer_word Watch = codes "watch"
+use Rattle.job.specs.Faults.{Finding, layer_word}
 
 -- `fault`, layer, number, place
 abbrev pub fault_bytes : Finding → List ℕ
@@ -24,8 +18,7 @@ hit_bytes parts m h = line (decimal (begin_of m h) ∷ (map signed_decimal (part
 
 -- a line for each hit
 abbrev pub hits_bytes : {C : Type 0} → (C → List ℤ) → ℕ → List (Hit C) → List ℕ
-hits_bytes parts m [] = []
-hits_bytes parts m (h ∷ hs) = hit_bytes parts m h ++ hits_bytes parts m hs
+hits_bytes parts m hs = flat_map (hit_bytes parts m) hs
 
 -- `report` with the number of windows, the hits, and `end` with the counts
 abbrev pub report_bytes : {C : Type 0} → (C → List ℤ) → ℕ → Report C → List ℕ

@@ -14,7 +14,8 @@ mod fault_text;
 mod job_report;
 mod report_text;
 
-// The lines of a report, or the line of a fault.
+// The lines of a report, or the line of a fault. This is no `Result`: a fault line is an answer like a report, and as an
+// error it would leave by `?` together with want of memory.
 #[derive(Drop)]
 pub enum Answer {
     Report(String),

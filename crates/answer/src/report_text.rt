@@ -1,5 +1,6 @@
 // The lines of a report.
-ghost use Rattle.std.specs.Prelude.{◌≡◌, ◌+◌, ◌^◌, ◌<◌, ◌≤◌, ◌++◌, IfOk, string_bytes, OnOk};
+ghost use Rattle.std.specs.Prelude.{◌≡◌, ◌+◌, ◌^◌, ◌<◌, ◌≤◌, IfOk, string_bytes};
+ghost use Rattle.lines.specs.Lines.{Adds};
 ghost use Rattle.answer.specs.Lines.{hits_bytes, report_bytes};
 
 use costs::Cost;
@@ -33,7 +34,7 @@ fn push_hits<C: Cost + Printed>(
     hits: &[Hit<C>],
 ) -> Result<(), AllocError>
     requires { 1 ≤ places }
-    ensures { OnOk result (string_bytes out.new ≡ string_bytes out.old ++ hits_bytes C.Printed.parts places hits.now) }
+    ensures { Adds result out.old out.new (hits_bytes C.Printed.parts places hits.now) }
 {
     for hit in hits {
         let begin = hit.end.saturating_sub(places - 1);

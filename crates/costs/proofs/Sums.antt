@@ -1,6 +1,5 @@
 -- Sums over a kind of costs. What bounds a sum is the sum of its spans.
-use Rattle.std.proofs.Common.{◌≡◌, ℕ, zero, suc, ◌+◌, ◌*◌, ◌<◌, ◌≤◌, ◌⊎◌, List, [], ◌∷◌, ◌++◌, length, get_or, take, sym, refl, ap, ◌∙◌, subst, inl, inr, arith}
-use Rattle.std.proofs.lemmas.List.{take_more}
+use Rattle.std.proofs.Common.{◌≡◌, ℕ, ◌+◌, ◌*◌, ◌≤◌, ◌⊎◌, List, [], ◌∷◌, ◌++◌, length, sym, refl, ap, ◌∙◌, subst, inl, inr, arith}
 use Rattle.std.specs.List.{AllByRecursion}
 use Rattle.costs.specs.Kind.{Kind, Laws, AtMost, limit}
 use Rattle.costs.specs.Lists.{In, Apart}
@@ -109,17 +108,3 @@ module _ {C : Type 0} (k : Kind C) (laws : Laws k) {X : Type 0} where
   reindex f (x ∷ xs) ys a s e b =
       ap (k.plus (f x)) (reindex f xs (out x ys s.0) a.1 (sub_out x ys s.0 xs a.0 s.1) (omega (arith, length_out x ys s.0)) (omega (arith, spans_out k f x ys s.0)))
       ∙ sym (sum_of_out f x ys s.0 b)
-
--- a loop's step over a sum
-module _ {C X : Type 0} (k : Kind C) (laws : Laws k) (f : X → C) where
-  pub spans_more : (xs : List X) (i : ℕ) (d : X) → i < length xs → spans k f (take i xs) + k.span (f (get_or xs i d)) ≤ spans k f xs
-  spans_more [] i d h = absurd (omega arith)
-  spans_more (x ∷ xs) zero d h = omega arith
-  spans_more (x ∷ xs) (suc i) d h = omega (arith, spans_more xs i d (omega arith))
-
-  pub sum_of_more : (xs : List X) (i : ℕ) (x : X) → i < length xs → x ≡ get_or xs i x → spans k f xs ≤ limit → k.plus (sum_of k f (take i xs)) (f x) ≡ sum_of k f (take (i + 1) xs)
-  sum_of_more xs i x within read bound =
-      let pushed : take (i + 1) xs ≡ take i xs ++ (x ∷ []) = take_more xs i x within ∙ ap (λ y. take i xs ++ (y ∷ [])) (sym read) in
-      let fits : spans k f (take i xs) + k.span (f (get_or xs i x)) ≤ spans k f xs = spans_more xs i x within in
-      let same : k.span (f (get_or xs i x)) ≡ k.span (f x) = ap (λ y. k.span (f y)) (sym read) in
-      sym (ap (sum_of k f) pushed ∙ sum_of_append k laws f (take i xs) (x ∷ []) (omega arith) ∙ ap (k.plus (sum_of k f (take i xs))) (laws.plus_zero (f x) (omega (arith, laws.zero_span))))

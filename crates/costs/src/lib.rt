@@ -28,6 +28,7 @@ pub trait Cost: Copy {
     fn minus(self, other: Self) -> Self
         ensures { result ≡ kind.minus self other };
 
+    // An operation of the kind, and not Ord, which would ask for an equality and a total order of its own besides.
     fn at_most(&self, other: &Self) -> bool
         ensures { result ≡ kind.at_most self.now other.now };
 

@@ -22,6 +22,7 @@ impl<A: Cost, B: Cost> Cost for Pair<A, B> {
         }
     }
 
+    // `plus` and `minus` share the test alone; one text over closures for both parts would be longer than the two.
     fn plus(self, other: Pair<A, B>) -> Pair<A, B> {
         if !formed(self.span(), other.span()) {
             return Self::zero();

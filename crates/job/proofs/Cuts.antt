@@ -33,7 +33,7 @@ front_split_by x xs ys true w go = refl
 front_split_by x xs ys false w go = ap (λ (bs : List ℕ). x ∷ bs) (go w)
 
 front_split : (xs ys : List ℕ) → Whole true xs ys → front (xs ++ ys) ≡ front xs
-front_split [] ys (inl e) = let z : ◌≡◌ {A = ℕ} 0 1 = cc in absurd (omega arith)
+front_split [] ys (inl e) = cc
 front_split [] ys (inr e) = front_none ys e
 front_split (x ∷ xs) ys w = front_split_by x xs ys (blank x) w (front_split xs ys)
 

@@ -4,15 +4,16 @@ use Rattle.std.specs.Char.{is_ascii_digit}
 use Rattle.std.specs.Str.{all_ascii_digits}
 use Rattle.std.proofs.lemmas.Fmt.{digits_decimal, digits_value-decimal, first_decimal, decimal_digit}
 use Rattle.std.proofs.lemmas.Str.Parse.{IsNumeralModel, numerals_by_fold, tells_all_ascii_digits}
-use Rattle.std.proofs.lemmas.Bool.{and_parts, cases_lt, cond-true, cond_both, ne_eqb}
+use Rattle.std.proofs.lemmas.Bool.{and_parts, cases_lt, cond-true, cond-false, cond_both, ne_eqb}
 use Rattle.std.proofs.lemmas.Bool.Decides.{nat_tests}
 use Rattle.job.specs.Limits.{max_number}
-use Rattle.job.specs.Runs.{run_at, letter, digit, of_sort, of_letters, wrong, sorted, sort}
+use Rattle.job.specs.Runs.{run_at, letter, digit, of_sort, sort_of, wrong, sorted, sort}
 use Rattle.job.specs.Numerals.{read_on, needless_zero, numeral}
 use Rattle.job.specs.Content.{Content}
 use Rattle.job.specs.States.{state}
 use Rattle.job.specs.Steps.{value_step, takes_number, read_step, sort_step, step}
 use Rattle.job.specs.declared.expected.Expected.{Expected}
+use Rattle.job.specs.declared.tokens.Sort.TheVariants.{Digit}
 use Rattle.job.proofs.Values.{numeral_small}
 
 pub own : IsNumeralModel (λ ds. all_ascii_digits ds ≡ true) (read_on 0)
@@ -25,7 +26,7 @@ cond_and false y = refl
 pub digit_ascii : (b : ℕ) → digit b ≡ is_ascii_digit b
 digit_ascii b = cond_and (leb 48 b) (leb b 57)
 
-unspoiled : (p : ℕ) (ds : List ℕ) → all_ascii_digits ds ≡ true → wrong (of_sort false) p ds ≡ None
+unspoiled : (p : ℕ) (ds : List ℕ) → all_ascii_digits ds ≡ true → wrong (of_sort Digit) p ds ≡ None
 unspoiled p [] e = refl
 unspoiled p (d ∷ ds) e =
     let both = and_parts (is_ascii_digit d) (all_ascii_digits ds) e in
@@ -34,12 +35,12 @@ unspoiled p (d ∷ ds) e =
 not_letter : (d : ℕ) → is_ascii_digit d ≡ true → letter d ≡ false
 not_letter d e = grind (arith, nat_tests)
 
-first_digit : (ds : List ℕ) → all_ascii_digits ds ≡ true → of_letters ds ≡ false
+first_digit : (ds : List ℕ) → all_ascii_digits ds ≡ true → sort_of ds ≡ Digit
 first_digit [] e = refl
-first_digit (d ∷ ds) e = not_letter d (and_parts (is_ascii_digit d) (all_ascii_digits ds) e).0
+first_digit (d ∷ ds) e = cond-false _ _ _ (not_letter d (and_parts (is_ascii_digit d) (all_ascii_digits ds) e).0)
 
-pub number_sort : (p : ℕ) (ds : List ℕ) → all_ascii_digits ds ≡ true → sort (run_at p ds) ≡ Ok false
-number_sort p ds e = ap (λ b. sorted b (wrong (of_sort b) p ds)) (first_digit ds e) ∙ ap (sorted false) (unspoiled p ds e)
+pub number_sort : (p : ℕ) (ds : List ℕ) → all_ascii_digits ds ≡ true → sort (run_at p ds) ≡ Ok Digit
+number_sort p ds e = ap (λ b. sorted b (wrong (of_sort b) p ds)) (first_digit ds e) ∙ ap (sorted Digit) (unspoiled p ds e)
 
 module _ (n : ℕ) (small : n ≤ max_number) where
   fits : n < 2 ^ 64

@@ -1,5 +1,5 @@
 -- The fault is the first, and nothing after it can change it.
-use Rattle.std.proofs.Common.{◌≡◌, ℕ, ◌+◌, ◌<◌, ◌≤◌, Bool, true, false, ◌⊎◌, List, [], ◌∷◌, ◌++◌, length, Some, None, Ok, Err, Option, Result, sym, refl, ap, ◌∙◌, subst, inl, inr, arith}
+use Rattle.std.proofs.Common.{◌≡◌, ℕ, ◌+◌, ◌<◌, ◌≤◌, false, ◌⊎◌, List, [], ◌∷◌, ◌++◌, length, Some, None, Ok, Err, Option, Result, sym, refl, ap, ◌∙◌, subst, inl, inr, arith}
 use Rattle.std.specs.List.{AllByRecursion}
 use Rattle.std.proofs.lemmas.List.{length-append}
 use Rattle.job.specs.Limits.{max_text}
@@ -11,6 +11,8 @@ use Rattle.job.specs.Steps.{step, sort_step}
 use Rattle.job.specs.Reading.{by_answer, walk, stopped, ended, finish, read}
 use Rattle.job.specs.Laws.{Parted, NothingAfter, OnlyEnds, FirstFault}
 use Rattle.job.specs.declared.expected.Expected.{Expected}
+use Rattle.job.specs.declared.tokens.Sort.{Sort}
+use Rattle.job.specs.declared.tokens.Sort.TheVariants.{Letter, Digit}
 use Rattle.job.specs.declared.expected.Expected.TheVariants.{KindWord, Title, Count, Number, PinNumber, End}
 use Rattle.job.proofs.Cuts.{runs_parted, Lies, runs_lie}
 use Rattle.job.proofs.Placed.{Placed, placed_walk}
@@ -76,9 +78,9 @@ abbrev TooMany : Result Content Finding → Type 0
 TooMany (Ok c) = Unit {0}
 TooMany (Err f) = (f.number ≡ 3) ⊎ (f.number ≡ 1)
 
-too_many_sort : (c : Content) (r : Run) (rs : List Run) (len : ℕ) (x : Result Bool ℕ) → TooMany (by_answer (by_answer (sort_step (state End c) r x) (λ t. walk t rs) (λ f. Err f)) (finish len) (λ f. Err f))
-too_many_sort c r rs len (Ok true) = inl refl
-too_many_sort c r rs len (Ok false) = inl refl
+too_many_sort : (c : Content) (r : Run) (rs : List Run) (len : ℕ) (x : Result Sort ℕ) → TooMany (by_answer (by_answer (sort_step (state End c) r x) (λ t. walk t rs) (λ f. Err f)) (finish len) (λ f. Err f))
+too_many_sort c r rs len (Ok Letter) = inl refl
+too_many_sort c r rs len (Ok Digit) = inl refl
 too_many_sort c r rs len (Err p) = inr refl
 
 too_many : (c : Content) (rs : List Run) (len : ℕ) → TooMany (by_answer (walk (state End c) rs) (finish len) (λ f. Err f))

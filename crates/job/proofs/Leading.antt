@@ -23,6 +23,7 @@ use Rattle.job.specs.declared.accepted.Pin.{Pin}
 use Rattle.job.specs.declared.expected.Section.{Section}
 use Rattle.job.specs.declared.expected.Section.TheVariants.{Size, Bounds, Pins, Trace, Log}
 use Rattle.job.specs.declared.expected.Expected.{Expected}
+use Rattle.job.specs.declared.tokens.Sort.TheVariants.{Letter}
 use Rattle.job.specs.declared.expected.Expected.TheVariants.{KindWord, Title, Count, Number, PinNumber, End}
 use Rattle.job.proofs.Decimal.{number_run}
 use Rattle.job.proofs.Taken.{laid_push}
@@ -46,7 +47,7 @@ reads_cons s w ws t u goes on (r ∷ rs) e =
 pub coming_suc : (section : Section) (k : ℕ) → coming section (suc k) ≡ Number section k
 coming_suc section k = cond-false _ _ _ (ne_eqb (suc k) 0 (λ (q : suc k ≡ 0). omega arith)) ∙ ap (Number section) (omega arith)
 
-title_sort : (section : Section) (p : ℕ) → sort (run_at p (title_word section)) ≡ Ok true
+title_sort : (section : Section) (p : ℕ) → sort (run_at p (title_word section)) ≡ Ok Letter
 title_sort Size p = refl
 title_sort Bounds p = refl
 title_sort Pins p = refl
@@ -91,7 +92,7 @@ reads_log (n ∷ ns) c ws u h a on =
 -- what a pin that is accepted tells of its numbers
 pin_small_by : (b : Bool) (x : Result (Unit {0}) ℕ) → cond b x (Err 10) ≡ Ok tt → b ≡ true
 pin_small_by true x e = refl
-pin_small_by false x e = let z : ◌≡◌ {A = ℕ} 0 1 = cc in absurd (omega arith)
+pin_small_by false x e = cc
 
 pub pin_small : (s : ℕ) (pins : ℕ → Option ℕ) (e n : ℕ) → pin_answer s pins e n ≡ Ok tt → s ≤ max_size → (e ≤ max_number) × (n ≤ max_number)
 pin_small s pins e n ok h =

@@ -1,4 +1,5 @@
 pub mod Scans
+pub mod Words
 pub mod Values
 pub mod Taken
 pub mod Walked

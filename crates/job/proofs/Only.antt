@@ -22,13 +22,12 @@ use Rattle.job.specs.declared.accepted.Pin.{Pin}
 use Rattle.job.specs.declared.expected.Section.{Section}
 use Rattle.job.specs.declared.expected.Section.TheVariants.{Size, Bounds, Pins, Trace, Log}
 use Rattle.job.specs.declared.expected.Expected.{Expected}
+use Rattle.job.specs.declared.tokens.Sort.{Sort}
+use Rattle.job.specs.declared.tokens.Sort.TheVariants.{Letter, Digit}
 use Rattle.job.specs.declared.expected.Expected.TheVariants.{KindWord, Title, Count, Number, PinNumber, End}
 use Rattle.job.proofs.Leading.{content}
-use Rattle.job.proofs.Unreading.{not_both, ok_if, ok_unless, kind_inv, Solid, went}
+use Rattle.job.proofs.Unreading.{ok_same, ok_if, ok_unless, kind_inv, Solid, went}
 use Rattle.job.proofs.Spelt.{bytes_of, Ends, more, within_to, Counted, section_inv, one_inv, Traced, trace_inv, Logged, log_inv, Pinned, pins_inv}
-
-ok_same : {A F : Type 0} (x t : A) → ◌≡◌ {A = Result A F} (Ok x) (Ok t) → x ≡ t
-ok_same x t e = cc
 
 -- a section's title, count and numbers together
 whole : (section : Section) (ns : List ℕ) (n : ℕ) (xs ys zs : List (List ℕ)) → xs ≡ title_word section ∷ decimal n ∷ ys → ys ≡ map decimal ns ++ zs → length ns ≡ n → xs ≡ section_runs section ns ++ zs
@@ -90,10 +89,10 @@ bounds_inv (Mixed d f g) s ps ts ls rs j a ok =
     )
 
 -- after the last section nothing more is taken
-end_by : (c : Content) (r : Run) (rs : List Run) (u : State) {X : Type 0} (x : Result Bool ℕ) → by_answer (sort_step (state End c) r x) (λ t. walk t rs) (λ f. Err f) ≡ Ok u → X
-end_by c r rs u (Ok true) e = not_both u (finding 3 r.place) e
-end_by c r rs u (Ok false) e = not_both u (finding 3 r.place) e
-end_by c r rs u (Err p) e = not_both u (finding 1 p) e
+end_by : (c : Content) (r : Run) (rs : List Run) (u : State) {X : Type 0} (x : Result Sort ℕ) → by_answer (sort_step (state End c) r x) (λ t. walk t rs) (λ f. Err f) ≡ Ok u → X
+end_by c r rs u (Ok Letter) e = cc
+end_by c r rs u (Ok Digit) e = cc
+end_by c r rs u (Err p) e = cc
 
 end_inv : (c : Content) (rs : List Run) (j : Content) → Ends End c rs j → (bytes_of rs ≡ []) × (c ≡ j)
 end_inv c [] j ok = (refl, ap (λ (s : State). s.content) (ok_same (state End c) (state End j) ok))
@@ -101,17 +100,17 @@ end_inv c (r ∷ rs) j ok = end_by c r rs (state End j) (sort r) ok
 
 -- what an accepted text was read to
 ended_inv : (len : ℕ) (e : Expected) (c j : Content) → ended len e c ≡ Ok j → state e c ≡ state End j
-ended_inv len KindWord c j ok = not_both j (finding 3 len) ok
-ended_inv len (Title section) c j ok = not_both j (finding 3 len) ok
-ended_inv len (Count section) c j ok = not_both j (finding 3 len) ok
-ended_inv len (Number section after) c j ok = not_both j (finding 3 len) ok
-ended_inv len (PinNumber after event first) c j ok = not_both j (finding 3 len) ok
+ended_inv len KindWord c j ok = cc
+ended_inv len (Title section) c j ok = cc
+ended_inv len (Count section) c j ok = cc
+ended_inv len (Number section after) c j ok = cc
+ended_inv len (PinNumber after event first) c j ok = cc
 ended_inv len End c j ok = ap (state End) (ok_same c j ok)
 
 read_inv : (len : ℕ) (b : Bool) (a : Result State Finding) (j : Content) → cond b (Err (finding 4 max_text)) (by_answer a (finish len) (λ f. Err f)) ≡ Ok j → (b ≡ false) × (a ≡ Ok (state End j))
-read_inv len true a j ok = not_both j (finding 4 max_text) ok
+read_inv len true a j ok = cc
 read_inv len false (Ok s) j ok = (refl, ap Ok (ended_inv len s.expected s.content j ok))
-read_inv len false (Err f) j ok = not_both j f ok
+read_inv len false (Err f) j ok = cc
 
 -- no run is empty
 solid_by : (b place : ℕ) (bs : List ℕ) (t inside : Bool) → ((i : Bool) → Solid (runs_from i (place + 1) bs)) → Solid (cond t (runs_from false (place + 1) bs) (cond inside (runs_from true (place + 1) bs) (run_at place (b ∷ front bs) ∷ runs_from true (place + 1) bs)))
@@ -125,7 +124,7 @@ solid inside place (b ∷ bs) = solid_by b place bs (blank b) inside (λ i. soli
 
 even_by : (n : ℕ) (b : Bool) → eqb (n % 2) 0 ≡ b → cond b (leb n max_pin_numbers) false ≡ true → (n ≡ 2 * (n / 2)) × (n ≤ max_pin_numbers)
 even_by n true e ok = (let r = eqb-true (n % 2) 0 e in let d = div-add-mod n 2 in omega arith, leb-true n max_pin_numbers ok)
-even_by n false e ok = let z : ◌≡◌ {A = ℕ} 0 1 = cc in absurd (omega arith)
+even_by n false e ok = cc
 
 -- from each section on, what the rest of the runs tells of the job
 abbrev FromLog : Kind → ℕ → List Pin → List ℕ → List Run → Content → Type 0
@@ -265,7 +264,7 @@ module _ (k : Kind) (rs : List Run) (j : Content) where
 pub only_jobs : OnlyJobs
 only_jobs text j ok =
     let r = read_inv (length text) (ltb max_text (length text)) (walk start (runs text)) j ok in
-    let w = went start (runs text) j (λ (q : KindWord ≡ End). let z : ◌≡◌ {A = ℕ} 0 1 = cc in omega arith) (solid false 0 text) r.1 in
+    let w = went start (runs text) j (λ (q : KindWord ≡ End). cc) (solid false 0 text) r.1 in
     let k = kind_inv start.content w.0 w.2 w.6 in
     let s = sections_inv k.0 w.1 j w.5 (ap (λ (x : State). walk x w.1) k.3 ∙ w.7) in
     (ltb-false max_text (length text) r.0, more (runs text) w.0 w.1 (kind_word k.0) w.3 k.1 ∙ s.0, s.1)

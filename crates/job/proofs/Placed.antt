@@ -1,5 +1,5 @@
 -- A fault lies within the runs up to the one at which it was found.
-use Rattle.std.proofs.Common.{ℕ, ◌+◌, ◌-◌, ◌<◌, ◌≤◌, Bool, true, false, ◌&&◌, eqb, ltb, List, [], ◌∷◌, length, Some, None, Ok, Err, Option, Result, arith}
+use Rattle.std.proofs.Common.{ℕ, ◌+◌, ◌-◌, ◌<◌, ◌≤◌, Bool, ◌&&◌, eqb, ltb, List, [], ◌∷◌, length, Some, None, Ok, Err, Option, Result, arith}
 use Rattle.std.specs.List.{AllByRecursion}
 use Rattle.std.proofs.lemmas.Bool.{cond_both}
 use Rattle.std.specs.Str.{bytes_eq}
@@ -7,7 +7,7 @@ use Rattle.tables.specs.Limits.{max_size, max_delta}
 use Rattle.tables.specs.Pins.{pin_answer}
 use Rattle.tables.specs.Table.{within}
 use Rattle.job.specs.Faults.{Finding, finding}
-use Rattle.job.specs.Runs.{Run, of_sort, of_letters, wrong, sorted}
+use Rattle.job.specs.Runs.{Run, of_sort, sort_of, wrong, sorted}
 use Rattle.job.specs.Numerals.{numeral}
 use Rattle.job.specs.Content.{Content, is_delta, with_bound, laid, with_kind, with_size, add_trace, add_event}
 use Rattle.job.specs.Words.{kind_named, title_word, following, coming}
@@ -16,6 +16,8 @@ use Rattle.job.specs.Taking.{is_count, count_fault, number_step, pin_step}
 use Rattle.job.specs.Steps.{kind_step, word_step, value_step, takes_number, read_step, digits_step, sort_step, step}
 use Rattle.job.specs.Reading.{by_answer, walk}
 use Rattle.job.specs.declared.accepted.Kind.{Kind}
+use Rattle.job.specs.declared.tokens.Sort.{Sort}
+use Rattle.job.specs.declared.tokens.Sort.TheVariants.{Letter, Digit}
 use Rattle.job.specs.declared.expected.Section.{Section}
 use Rattle.job.specs.declared.expected.Section.TheVariants.{Size, Bounds, Pins, Trace, Log}
 use Rattle.job.specs.declared.expected.Expected.{Expected}
@@ -94,15 +96,15 @@ module _ (n place : ℕ) (here : place < n) (c : Content) where
   placed_digits : (e : Expected) (ds : List ℕ) → Kept n e → Placed n (digits_step e c ds place)
   placed_digits e ds k = cond_both (takes_number e) (read_step e c place (numeral ds)) (Err (finding 3 place)) (Placed n) (λ _. placed_read e (numeral ds) k) (λ _. here)
 
-placed_sorted : (n : ℕ) (s : State) (r : Run) → r.place < n → Kept n s.expected → (letters : Bool) (o : Option ℕ) → Below n o → Placed n (sort_step s r (sorted letters o))
-placed_sorted n s r here k true None b = placed_word n r.place here s.content s.expected r.bytes
-placed_sorted n s r here k false None b = placed_digits n r.place here s.content s.expected r.bytes k
-placed_sorted n s r here k letters (Some p) b = b
+placed_sorted : (n : ℕ) (s : State) (r : Run) → r.place < n → Kept n s.expected → (x : Sort) (o : Option ℕ) → Below n o → Placed n (sort_step s r (sorted x o))
+placed_sorted n s r here k Letter None b = placed_word n r.place here s.content s.expected r.bytes
+placed_sorted n s r here k Digit None b = placed_digits n r.place here s.content s.expected r.bytes k
+placed_sorted n s r here k x (Some p) b = b
 
 pub placed_step : (low n : ℕ) (s : State) (r : Run) → Lies low n r → Kept n s.expected → Placed n (step s r)
 placed_step low n s r l k =
-    placed_sorted n s r l.1 k (of_letters r.bytes) (wrong (of_sort (of_letters r.bytes)) r.place r.bytes)
-    (wrong_below (of_sort (of_letters r.bytes)) r.place r.bytes n l.2)
+    placed_sorted n s r l.1 k (sort_of r.bytes) (wrong (of_sort (sort_of r.bytes)) r.place r.bytes)
+    (wrong_below (of_sort (sort_of r.bytes)) r.place r.bytes n l.2)
 
 placed_on : (n : ℕ) (a : Result State Finding) (go : State → Result State Finding) → Placed n a → ((t : State) → Kept n t.expected → Placed n (go t)) → Placed n (by_answer a go (λ f. Err f))
 placed_on n (Ok t) go p h = h t p

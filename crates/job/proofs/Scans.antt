@@ -1,117 +1,151 @@
 -- The runs of a text, from one place to the next.
-use Rattle.std.proofs.Common.{◌≡◌, ℕ, suc, ◌+◌, ◌-◌, ◌<◌, ◌≤◌, Bool, true, false, cond, List, [], ◌∷◌, ◌++◌, length, get_or, take, drop, Some, None, IsAscii, Option, sym, refl, ap, ◌∙◌, ⊎_elim, append_assoc, append-nil, arith}
+use Rattle.std.proofs.Common.{◌≡◌, ℕ, suc, ◌+◌, ◌-◌, ◌<◌, ◌≤◌, Bool, true, false, cond, not, List, [], ◌∷◌, length, get_or, take, drop, Some, None, Ok, Err, IsAscii, Option, sym, refl, ap, ◌∙◌, ⊎_elim, arith, length-drop}
+use Rattle.std.specs.List.{prefix_len, position, position_from}
+use Rattle.std.specs.Option.{option_map}
+use Rattle.std.proofs.lemmas.Iterator.Adapters.{position_from-zero}
 use Rattle.std.proofs.lemmas.Str.Ascii.{IsAscii-nil, IsAscii-cons}
-use Rattle.std.proofs.lemmas.List.Edits.{between_more}
-use Rattle.std.proofs.lemmas.List.{at_drop_more, at_drop_all, drop_more}
+use Rattle.std.proofs.lemmas.List.{at_drop_all, drop-drop, get_or-drop, take_rest}
+use Rattle.std.proofs.lemmas.List.Sums.{prefix_len_stops}
 use Rattle.std.proofs.lemmas.Bool.{cases_lt, cond-true, cond-false}
 use Rattle.std.proofs.lemmas.Bool.Decides.{nat_tests}
-use Rattle.job.specs.Runs.{Run, run_at, blank, front, runs_from, runs_at, letter, of_sort, wrong, of_letters, sorted, sort}
+use Rattle.job.specs.Runs.{Run, run_at, blank, front, runs_from, runs_at, of_sort, wrong, sort_of, sorted, sort}
+use Rattle.job.specs.declared.tokens.Sort.{Sort}
+use Rattle.job.specs.declared.tokens.Sort.TheVariants.{Letter, Digit}
 
--- a blank is passed
-pub runs_skip : (text : List ℕ) (i : ℕ) → i < length text → blank (get_or text i 0) ≡ true → runs_at i text ≡ runs_at (i + 1) text
-runs_skip text i h e = at_drop_more (runs_from false i) text i 0 h ∙ cond-true _ _ _ e
+-- the blanks in front are passed
+skip_by : (place b : ℕ) (bs : List ℕ) (n : ℕ) (t : Bool) → blank b ≡ t → runs_from false (place + 1) bs ≡ runs_from false (place + 1 + n) (drop n bs) → runs_from false place (b ∷ bs) ≡ runs_from false (place + cond t (1 + n) 0) (drop (cond t (1 + n) 0) (b ∷ bs))
+skip_by place b bs n true e h =
+    let more : suc n ≡ 1 + n = omega arith in
+    cond-true _ _ _ e ∙ h ∙ ap (λ k. runs_from false k (drop n bs)) (omega arith) ∙ ap (λ k. runs_from false (place + k) (drop k (b ∷ bs))) more
+skip_by place b bs n false e h = ap (λ k. runs_from false k (b ∷ bs)) (omega arith)
 
--- a byte of a run that has begun is passed
-pub run_goes : (text : List ℕ) (i : ℕ) → i < length text → blank (get_or text i 0) ≡ false → runs_from true i (drop i text) ≡ runs_from true (i + 1) (drop (i + 1) text)
-run_goes text i h e = at_drop_more (runs_from true i) text i 0 h ∙ cond-false _ _ _ e
+runs_skip : (place : ℕ) (bs : List ℕ) → runs_from false place bs ≡ runs_from false (place + prefix_len blank bs) (drop (prefix_len blank bs) bs)
+runs_skip place [] = refl
+runs_skip place (b ∷ bs) = skip_by place b bs (prefix_len blank bs) (blank b) refl (runs_skip (place + 1) bs)
 
--- a run ends at a blank
-pub run_stops : (text : List ℕ) (i : ℕ) → i < length text → blank (get_or text i 0) ≡ true → runs_from true i (drop i text) ≡ runs_at i text
-run_stops text i h e =
-    at_drop_more (runs_from true i) text i 0 h ∙ cond-true _ _ _ e ∙ sym (cond-true _ _ _ e) ∙ sym (at_drop_more (runs_from false i) text i 0 h)
+-- a run that has begun goes on to its end
+goes_by : (place b : ℕ) (bs : List ℕ) (t : Bool) → blank b ≡ t → runs_from true (place + 1) bs ≡ runs_from false (place + 1 + length (front bs)) (drop (length (front bs)) bs) → runs_from true place (b ∷ bs) ≡ runs_from false (place + length (cond t [] (b ∷ front bs))) (drop (length (cond t [] (b ∷ front bs))) (b ∷ bs))
+goes_by place b bs true e h = cond-true _ _ _ e ∙ sym (cond-true _ _ _ e) ∙ ap (λ k. runs_from false k (b ∷ bs)) (omega arith)
+goes_by place b bs false e h = cond-false _ _ _ e ∙ h ∙ ap (λ k. runs_from false k (drop (length (front bs)) bs)) (omega arith)
 
--- .. and at the text's end
-pub run_ends : (text : List ℕ) (i : ℕ) → length text ≤ i → runs_from true i (drop i text) ≡ runs_at i text
-run_ends text i h = at_drop_all (runs_from true i) text i h ∙ sym (at_drop_all (runs_from false i) text i h)
+runs_go : (place : ℕ) (bs : List ℕ) → runs_from true place bs ≡ runs_from false (place + length (front bs)) (drop (length (front bs)) bs)
+runs_go place [] = refl
+runs_go place (b ∷ bs) = goes_by place b bs (blank b) refl (runs_go (place + 1) bs)
 
-pub runs_none : (text : List ℕ) (i : ℕ) → length text ≤ i → runs_at i text ≡ []
-runs_none text i h = at_drop_all (runs_from false i) text i h
+-- bytes that do not begin with a blank begin with a run
+runs_first : (place : ℕ) (bs : List ℕ) → 0 < length bs → blank (get_or bs 0 0) ≡ false → (0 < length (front bs)) × (runs_from false place bs ≡ run_at place (front bs) ∷ runs_from false (place + length (front bs)) (drop (length (front bs)) bs))
+runs_first place [] h e = absurd (omega arith)
+runs_first place (b ∷ bs) h e =
+    let whole : front (b ∷ bs) ≡ b ∷ front bs = cond-false _ _ _ e in (
+      omega (arith, ap length whole),
+      cond-false _ _ _ e
+          ∙ ap (λ (cs : List ℕ). run_at place cs ∷ runs_from true (place + 1) bs) (sym whole)
+          ∙ ap (λ (rs : List Run). run_at place (front (b ∷ bs)) ∷ rs) (sym (cond-false _ _ _ e) ∙ runs_go place (b ∷ bs)),
+    )
 
--- the bytes of a run, one more
-pub front_goes : (text : List ℕ) (from i : ℕ) → from ≤ i → i < length text → blank (get_or text i 0) ≡ false → front (drop from text) ≡ take (i - from) (drop from text) ++ front (drop i text) → front (drop from text) ≡ take (i + 1 - from) (drop from text) ++ front (drop (i + 1) text)
-front_goes text from i o h e was =
-    let here : front (drop i text) ≡ get_or text i 0 ∷ front (drop (i + 1) text) = at_drop_more front text i 0 h ∙ cond-false _ _ _ e in
-    was
-    ∙ ap (λ (bs : List ℕ). take (i - from) (drop from text) ++ bs) here
-    ∙ sym (append_assoc (take (i - from) (drop from text)) (get_or text i 0 ∷ []) (front (drop (i + 1) text)))
-    ∙ ap (λ (bs : List ℕ). bs ++ front (drop (i + 1) text)) (sym (between_more text from i 0 o h))
+-- the bytes up to the first blank
+front_by : (b : ℕ) (bs : List ℕ) (n : ℕ) (t : Bool) → take n bs ≡ front bs → take (cond (not t) (1 + n) 0) (b ∷ bs) ≡ cond t [] (b ∷ front bs)
+front_by b bs n true h = refl
+front_by b bs n false h =
+    let more : 1 + n ≡ suc n = omega arith in
+    ap (λ k. take k (b ∷ bs)) more ∙ ap (λ (cs : List ℕ). b ∷ cs) h
 
-pub front_stops : (text : List ℕ) (from i : ℕ) → i < length text → blank (get_or text i 0) ≡ true → front (drop from text) ≡ take (i - from) (drop from text) ++ front (drop i text) → front (drop from text) ≡ take (i - from) (drop from text)
-front_stops text from i h e was =
-    let here : front (drop i text) ≡ [] = at_drop_more front text i 0 h ∙ cond-true _ _ _ e in
-    was ∙ ap (λ (bs : List ℕ). take (i - from) (drop from text) ++ bs) here ∙ append-nil _
+pub front_taken : (bs : List ℕ) → take (prefix_len (λ b. not (blank b)) bs) bs ≡ front bs
+front_taken [] = refl
+front_taken (b ∷ bs) = front_by b bs (prefix_len (λ b. not (blank b)) bs) (blank b) (front_taken bs)
 
-pub front_ends : (text : List ℕ) (from i : ℕ) → length text ≤ i → front (drop from text) ≡ take (i - from) (drop from text) ++ front (drop i text) → front (drop from text) ≡ take (i - from) (drop from text)
-front_ends text from i h was =
-    was ∙ ap (λ (bs : List ℕ). take (i - from) (drop from text) ++ bs) (at_drop_all front text i h) ∙ append-nil _
+-- the place of the byte that spoils a run, from how many bytes stand before it
+wrong_by : (place n : ℕ) (t : Bool) (o p : Option ℕ) → p ≡ option_map (λ k. place + k) o → cond t p (Some (place + n)) ≡ option_map (λ k. place + k) (cond (not t) (Some n) o)
+wrong_by place n true o p h = h
+wrong_by place n false o p h = refl
 
--- the first byte of a part
-pub part_first : (text : List ℕ) (i to : ℕ) → i < to → to ≤ length text → take (to - i) (drop i text) ≡ get_or text i 0 ∷ take (to - (i + 1)) (drop (i + 1) text)
-part_first text i to h l =
-    let more : to - i ≡ suc (to - (i + 1)) = omega arith in
-    let here : i < length text = omega arith in
-    ap (λ n. take n (drop i text)) more ∙ ap (take (suc (to - (i + 1)))) (drop_more text i 0 here)
+wrong_from : (test : ℕ → Bool) (place n : ℕ) (bs : List ℕ) → wrong test (place + n) bs ≡ option_map (λ k. place + k) (position_from (λ b. not (test b)) n bs)
+wrong_from test place n [] = refl
+wrong_from test place n (b ∷ bs) =
+    wrong_by place n (test b) (position_from (λ b. not (test b)) (n + 1) bs) (wrong test (place + n + 1) bs)
+    (ap (λ k. wrong test k bs) (omega arith) ∙ wrong_from test place (n + 1) bs)
 
-pub wrong_goes : (test : ℕ → Bool) (text : List ℕ) (i to : ℕ) → i < to → to ≤ length text → test (get_or text i 0) ≡ true → wrong test i (take (to - i) (drop i text)) ≡ wrong test (i + 1) (take (to - (i + 1)) (drop (i + 1) text))
-wrong_goes test text i to h l e = ap (wrong test i) (part_first text i to h l) ∙ cond-true _ _ _ e
-
-pub wrong_stops : (test : ℕ → Bool) (text : List ℕ) (i to : ℕ) → i < to → to ≤ length text → test (get_or text i 0) ≡ false → wrong test i (take (to - i) (drop i text)) ≡ Some i
-wrong_stops test text i to h l e = ap (wrong test i) (part_first text i to h l) ∙ cond-false _ _ _ e
-
-pub wrong_ends : (test : ℕ → Bool) (text : List ℕ) (i to : ℕ) → to ≤ i → wrong test i (take (to - i) (drop i text)) ≡ None
-wrong_ends test text i to h = let none : to - i ≡ 0 = omega arith in ap (λ n. wrong test i (take n (drop i text))) none
+pub wrong_is : (test : ℕ → Bool) (place : ℕ) (bs : List ℕ) → wrong test place bs ≡ option_map (λ k. place + k) (position (λ b. not (test b)) bs)
+wrong_is test place bs =
+    ap (λ k. wrong test k bs) (omega arith)
+    ∙ wrong_from test place 0 bs
+    ∙ ap (option_map (λ k. place + k)) (sym (position_from-zero (λ b. not (test b)) bs))
 
 -- a run that nothing spoils is below 128
-sort_low : (letters : Bool) (b : ℕ) → of_sort letters b ≡ true → b < 128
-sort_low true b e = grind (arith, nat_tests)
-sort_low false b e = grind (arith, nat_tests)
+sort_low : (s : Sort) (b : ℕ) → of_sort s b ≡ true → b < 128
+sort_low Letter b e = grind (arith, nat_tests)
+sort_low Digit b e = grind (arith, nat_tests)
 
-low_by : (letters : Bool) (place b : ℕ) (bs : List ℕ) (t : Bool) → of_sort letters b ≡ t → cond t (wrong (of_sort letters) (place + 1) bs) (Some place) ≡ None → (wrong (of_sort letters) (place + 1) bs ≡ None → IsAscii bs) → IsAscii (b ∷ bs)
-low_by letters place b bs true q e go = IsAscii-cons b bs (sort_low letters b q) (go e)
-low_by letters place b bs false q e go = let z : ◌≡◌ {A = ℕ} 0 1 = cc in absurd (omega arith)
+low_by : (s : Sort) (place b : ℕ) (bs : List ℕ) (t : Bool) → of_sort s b ≡ t → cond t (wrong (of_sort s) (place + 1) bs) (Some place) ≡ None → (wrong (of_sort s) (place + 1) bs ≡ None → IsAscii bs) → IsAscii (b ∷ bs)
+low_by s place b bs true q e go = IsAscii-cons b bs (sort_low s b q) (go e)
+low_by s place b bs false q e go = cc
 
-pub unspoiled_low : (letters : Bool) (place : ℕ) (bs : List ℕ) → wrong (of_sort letters) place bs ≡ None → IsAscii bs
-unspoiled_low letters place [] e = IsAscii-nil
-unspoiled_low letters place (b ∷ bs) e = low_by letters place b bs (of_sort letters b) refl e (unspoiled_low letters (place + 1) bs)
-
--- the run that begins at a place
-module _ (text : List ℕ) (start end : ℕ) (in' : start < length text) (solid : blank (get_or text start 0) ≡ false)
-    (bytes : front (drop start text) ≡ take (end - start) (drop start text)) (on : runs_from true start (drop start text) ≡ runs_at end text) where
-  pub run_here : runs_at start text ≡ run_at start (take (end - start) (drop start text)) ∷ runs_at end text
-  run_here =
-      let whole : front (drop start text) ≡ get_or text start 0 ∷ front (drop (start + 1) text) = at_drop_more front text start 0 in' ∙ cond-false _ _ _ solid in
-      at_drop_more (runs_from false start) text start 0 in'
-      ∙ cond-false _ _ _ solid
-      ∙ ap (λ (bs : List ℕ). run_at start bs ∷ runs_from true (start + 1) (drop (start + 1) text)) (sym whole ∙ bytes)
-      ∙ ap (λ (rs : List Run). run_at start (take (end - start) (drop start text)) ∷ rs) (sym (run_goes text start in' solid) ∙ on)
-
-  pub run_some : start < end
-  run_some =
-      let whole : front (drop start text) ≡ get_or text start 0 ∷ front (drop (start + 1) text) = at_drop_more front text start 0 in' ∙ cond-false _ _ _ solid in
-      ⊎_elim (λ h. h)
-      (λ h.
-      let none : end - start ≡ 0 = omega arith in
-      let empty : take (end - start) (drop start text) ≡ [] = ap (λ n. take n (drop start text)) none in
-      absurd (omega (arith, ap length (sym whole ∙ bytes ∙ empty))))
-      (cases_lt start end)
+pub unspoiled_low : (s : Sort) (place : ℕ) (bs : List ℕ) → wrong (of_sort s) place bs ≡ None → IsAscii bs
+unspoiled_low s place [] e = IsAscii-nil
+unspoiled_low s place (b ∷ bs) e = low_by s place b bs (of_sort s b) refl e (unspoiled_low s (place + 1) bs)
 
 -- the sort of a run, by its first byte and what spoils it
-pub sort_is : (text : List ℕ) (start end : ℕ) (o : Option ℕ) (letters : Bool) → start < end → end ≤ length text → letters ≡ letter (get_or text start 0) → o ≡ wrong (of_sort letters) start (take (end - start) (drop start text)) → sort (run_at start (take (end - start) (drop start text))) ≡ sorted letters o
-sort_is text start end o letters h l e q =
-    let first : of_letters (take (end - start) (drop start text)) ≡ letters = ap of_letters (part_first text start end h l) ∙ sym e in
-    ap (λ b. sorted b (wrong (of_sort b) start (take (end - start) (drop start text)))) first ∙ ap (sorted letters) (sym q)
+module _ (place : ℕ) (run : List ℕ) (s : Sort) (o : Option ℕ) (of : s ≡ sort_of run) (spoil : o ≡ position (λ b. not (of_sort s b)) run) where
+  spoils : wrong (of_sort s) place run ≡ option_map (λ k. place + k) o
+  spoils = wrong_is (of_sort s) place run ∙ ap (option_map (λ k. place + k)) (sym spoil)
 
--- the run that is found from a place on
-module _ (text : List ℕ) (from start end : ℕ) (letters : Bool) (o : Option ℕ)
-    (in' : start < length text) (skip : runs_at from text ≡ runs_at start text) (solid : start < length text → blank (get_or text start 0) ≡ false)
-    (short : end ≤ length text) (bytes : front (drop start text) ≡ take (end - start) (drop start text))
-    (on : runs_from true start (drop start text) ≡ runs_at end text)
-    (first : letters ≡ letter (get_or text start 0)) (spoil : o ≡ wrong (of_sort letters) start (take (end - start) (drop start text))) where
-  pub token_some : start < end
-  token_some = run_some text start end in' (solid in') bytes on
+  run_sort : sort (run_at place run) ≡ sorted s (option_map (λ k. place + k) o)
+  run_sort = ap (λ x. sorted x (wrong (of_sort x) place run)) (sym of) ∙ ap (sorted s) spoils
 
-  pub token_run : runs_at from text ≡ run_at start (take (end - start) (drop start text)) ∷ runs_at end text
-  token_run = skip ∙ run_here text start end in' (solid in') bytes on
+  pub run_good : o ≡ None → sort (run_at place run) ≡ Ok s
+  run_good e = run_sort ∙ ap (λ x. sorted s (option_map (λ k. place + k) x)) e
 
-  pub token_sort : sort (run_at start (take (end - start) (drop start text))) ≡ sorted letters o
-  token_sort = sort_is text start end o letters token_some short first spoil
+  pub run_bad : (n : ℕ) → o ≡ Some n → sort (run_at place run) ≡ Err (place + n)
+  run_bad n e = run_sort ∙ ap (λ x. sorted s (option_map (λ k. place + k) x)) e
+
+  pub run_clean : o ≡ None → wrong (of_sort s) place run ≡ None
+  run_clean e = spoils ∙ ap (option_map (λ k. place + k)) e
+
+-- the run that is found from a place on, n blanks later
+module _ (text : List ℕ) (from n : ℕ) (skip : n ≡ prefix_len blank (take (length text - from) (drop from text))) where
+  skipped : n ≡ prefix_len blank (drop from text)
+  skipped = skip ∙ ap (prefix_len blank) (take_rest text from)
+
+  passed : runs_at from text ≡ runs_at (from + n) text
+  passed =
+      runs_skip from (drop from text)
+      ∙ ap (λ k. runs_from false (from + k) (drop k (drop from text))) (sym skipped)
+      ∙ ap (runs_from false (from + n)) (drop-drop n from text)
+
+  solid : from + n < length text → blank (get_or (drop (from + n) text) 0 0) ≡ false
+  solid h =
+      let stops = prefix_len_stops blank (drop from text) 0 (omega (arith, skipped, length-drop from text)) in
+      ap blank (get_or-drop (from + n) text 0 0 ∙ ap (λ k. get_or text k 0) (omega (arith, skipped)) ∙ sym (get_or-drop from text (prefix_len blank (drop from text)) 0)) ∙ stops
+
+  module _ (k : ℕ) (len : k ≡ prefix_len (λ b. not (blank b)) (take (length text - (from + n)) (drop (from + n) text))) where
+    abbrev pub part : List ℕ
+    part = take k (take (length text - (from + n)) (drop (from + n) text))
+
+    bytes : part ≡ front (drop (from + n) text)
+    bytes =
+        ap (λ i. take i (take (length text - (from + n)) (drop (from + n) text))) len
+        ∙ front_taken (take (length text - (from + n)) (drop (from + n) text))
+        ∙ ap front (take_rest text (from + n))
+
+    first : from + n < length text → (0 < length part) × (runs_at from text ≡ run_at (from + n) part ∷ runs_at (from + n + length part) text)
+    first h =
+        let place = from + n in
+        let f = runs_first place (drop place text) (omega (arith, length-drop place text)) (solid h) in (
+          rw bytes f.0,
+          rw bytes (passed ∙ f.1 ∙ ap (λ (bs : List ℕ). run_at place (front (drop place text)) ∷ runs_from false (place + length (front (drop place text))) bs) (drop-drop (length (front (drop place text))) place text)),
+        )
+
+    none : length text ≤ from + n → (part ≡ []) × (runs_at from text ≡ [])
+    none h = (bytes ∙ at_drop_all front text (from + n) h, passed ∙ at_drop_all (runs_from false (from + n)) text (from + n) h)
+
+    pub run_none : length part ≡ 0 → from + n ≤ length text → (runs_at from text ≡ []) × (from + n + length part ≡ length text)
+    run_none e h = ⊎_elim
+        (λ below. absurd (omega (arith, (first below).0)))
+        (λ above. ((none above).1, omega arith))
+        (cases_lt (from + n) (length text))
+
+    pub run_some : 0 < length part → runs_at from text ≡ run_at (from + n) part ∷ runs_at (from + n + length part) text
+    run_some h = ⊎_elim
+        (λ below. (first below).1)
+        (λ above. absurd (omega (arith, ap length (none above).0)))
+        (cases_lt (from + n) (length text))

@@ -5,7 +5,7 @@ use Rattle.std.proofs.lemmas.Bool.{and_parts, leb-true}
 use Rattle.tables.specs.Pins.{pin_answer}
 use Rattle.tables.specs.Table.{Within, within}
 use Rattle.job.specs.Limits.{max_number}
-use Rattle.job.specs.Faults.{Finding, finding}
+use Rattle.job.specs.Faults.{finding}
 use Rattle.job.specs.Runs.{Run}
 use Rattle.job.specs.Content.{Content, laid, add_pin, add_trace, add_event}
 use Rattle.job.specs.Words.{title_word, coming}
@@ -20,7 +20,7 @@ use Rattle.job.specs.declared.expected.Expected.{Expected}
 use Rattle.job.specs.declared.expected.Expected.TheVariants.{Title, Count, Number, PinNumber, End}
 use Rattle.job.proofs.Leading.{coming_suc, content}
 use Rattle.job.proofs.Taken.{laid_push}
-use Rattle.job.proofs.Unreading.{not_both, ok_if, number_inv, title_inv, Solid, went}
+use Rattle.job.proofs.Unreading.{ok_same, ok_if, number_inv, title_inv, Solid, went}
 
 abbrev pub bytes_of : List Run → List (List ℕ)
 bytes_of rs = map (λ (r : Run). r.bytes) rs
@@ -38,9 +38,9 @@ Counted section c rs j = (n : ℕ) × (rest : List Run) × (bytes_of rs ≡ titl
 
 pub section_inv : (section : Section) (c : Content) (rs : List Run) (j : Content) → Solid rs → Ends (Title section) c rs j → Counted section c rs j
 section_inv section c rs j a ok =
-    let w = went (state (Title section) c) rs j (λ (q : Title section ≡ End). let z : ◌≡◌ {A = ℕ} 0 1 = cc in omega arith) a ok in
+    let w = went (state (Title section) c) rs j (λ (q : Title section ≡ End). cc) a ok in
     let t = title_inv section c w.0 w.2 w.6 in
-    let v = went (state (Count section) c) w.1 j (λ (q : Count section ≡ End). let z : ◌≡◌ {A = ℕ} 0 1 = cc in omega arith) w.5 (ap (λ (x : State). walk x w.1) t.1 ∙ w.7) in
+    let v = went (state (Count section) c) w.1 j (λ (q : Count section ≡ End). cc) w.5 (ap (λ (x : State). walk x w.1) t.1 ∙ w.7) in
     let n = number_inv (Count section) c v.0 v.2 v.4 refl v.6 in
     let k = ok_if (is_count section c.kind n.0) (state (coming section n.0) c) v.2 (finding (count_fault section) v.0.place) n.3 in (
       n.0,
@@ -53,7 +53,7 @@ section_inv section c rs j a ok =
 
 pub one_inv : (section : Section) (k : ℕ) (c : Content) (rs : List Run) (j : Content) → Solid rs → Ends (coming section (suc k)) c rs j → (n : ℕ) × (p : ℕ) × (t : State) × (rest : List Run) × (bytes_of rs ≡ decimal n ∷ bytes_of rest) × (n ≤ max_number) × (number_step section k c n p ≡ Ok t) × Solid rest × (walk t rest ≡ Ok (state End j))
 one_inv section k c rs j a ok =
-    let w = went (state (Number section k) c) rs j (λ (q : Number section k ≡ End). let z : ◌≡◌ {A = ℕ} 0 1 = cc in omega arith) a (ap (λ (e : Expected). walk (state e c) rs) (sym (coming_suc section k)) ∙ ok) in
+    let w = went (state (Number section k) c) rs j (λ (q : Number section k ≡ End). cc) a (ap (λ (e : Expected). walk (state e c) rs) (sym (coming_suc section k)) ∙ ok) in
     let n = number_inv (Number section k) c w.0 w.2 w.4 refl w.6 in
     (n.0, w.0.place, w.2, w.1, more rs w.0 w.1 (decimal n.0) w.3 n.1, n.2, n.3, w.5, w.7)
 
@@ -98,7 +98,7 @@ log_inv (suc k) c rs j a ok =
 
 pin_ok : (k e p : ℕ) (c : Content) (n : ℕ) (t : State) (x : Result (Unit {0}) ℕ) → pin_step k e p c n x ≡ Ok t → (x ≡ Ok tt) × (state (coming Pins (k - 1)) (add_pin c e n) ≡ t)
 pin_ok k e p c n t (Ok u) ok = (refl, cc)
-pin_ok k e p c n t (Err f) ok = not_both t (finding f p) ok
+pin_ok k e p c n t (Err f) ok = cc
 
 two_more : (x y k n : ℕ) → k ≡ suc y → n ≡ suc k → x ≡ k - 1 → suc (suc x) ≡ n
 two_more x y k n e q h = omega arith
@@ -109,7 +109,7 @@ Second k e c rs j = (n : ℕ) × (rest : List Run) × (bytes_of rs ≡ decimal n
 
 second_inv : (k e p : ℕ) (c : Content) (rs : List Run) (j : Content) → Solid rs → Ends (PinNumber k e p) c rs j → Second k e c rs j
 second_inv k e p c rs j a ok =
-    let w = went (state (PinNumber k e p) c) rs j (λ (q : PinNumber k e p ≡ End). let z : ◌≡◌ {A = ℕ} 0 1 = cc in omega arith) a ok in
+    let w = went (state (PinNumber k e p) c) rs j (λ (q : PinNumber k e p ≡ End). cc) a ok in
     let v = number_inv (PinNumber k e p) c w.0 w.2 w.4 refl w.6 in
     let pin = pin_ok k e p c v.0 w.2 (pin_answer c.size (laid c.size c.pins) e v.0) v.3 in
     (v.0, w.1, more rs w.0 w.1 (decimal v.0) w.3 v.1, pin.0, w.5, ap (λ (x : State). walk x w.1) pin.1 ∙ w.7)
@@ -121,13 +121,10 @@ Pair k c rs j = (e : ℕ) × (n : ℕ) × (rest : List Run) × (bytes_of rs ≡ 
 pair_on : (k e : ℕ) (c : Content) (rs first : List Run) (j : Content) → bytes_of rs ≡ decimal e ∷ bytes_of first → Second k e c first j → Pair k c rs j
 pair_on k e c rs first j b v = (e, v.0, v.1, b ∙ ap (λ (ws : List (List ℕ)). decimal e ∷ ws) v.2, v.3, v.4, v.5)
 
-same_state : (x t : State) → ◌≡◌ {A = Result State Finding} (Ok x) (Ok t) → x ≡ t
-same_state x t e = cc
-
 pair_inv : (k : ℕ) (c : Content) (rs : List Run) (j : Content) → Solid rs → Ends (coming Pins (suc k)) c rs j → Pair k c rs j
 pair_inv k c rs j a ok =
     let o = one_inv Pins k c rs j a ok in
-    pair_on k o.0 c rs o.3 j o.4 (second_inv k o.0 o.1 c o.3 j o.7 (ap (λ (x : State). walk x o.3) (same_state (state (PinNumber k o.0 o.1) c) o.2 o.6) ∙ o.8))
+    pair_on k o.0 c rs o.3 j o.4 (second_inv k o.0 o.1 c o.3 j o.7 (ap (λ (x : State). walk x o.3) (ok_same (state (PinNumber k o.0 o.1) c) o.2 o.6) ∙ o.8))
 
 abbrev pub Pinned : ℕ → Content → List Run → Content → Type 0
 Pinned n c rs j = (ps : List Pin) × (rest : List Run) × (length (by_turns ps) ≡ n) × Accepted c.size (laid c.size c.pins) ps × (bytes_of rs ≡ map decimal (by_turns ps) ++ bytes_of rest) × Solid rest × Ends (Title Trace) (content c.kind c.size (c.pins ++ ps) c.trace c.log) rest j

@@ -1,5 +1,5 @@
 -- What a fault tells: its layer, its number and its place.
-use Rattle.std.specs.Prelude.{ℕ, cond, nat_le}
+use Rattle.std.specs.Prelude.{ℕ, cond, nat_le, List, codes}
 use Rattle.tables.specs.Refusals.{refusal_number}
 use Rattle.job.specs.declared.fault.Layer.{Layer}
 use Rattle.job.specs.declared.fault.Layer.TheVariants.{Text, Job, Watch}
@@ -15,6 +15,12 @@ pub record Finding : Type 0 where
 -- 1 and 2 are of the text, 3 and 4 of the job, and the rest are the numbers of the watch's calls
 abbrev pub layer_of : ℕ → Layer
 layer_of n = cond (nat_le n 2) Text (cond (nat_le n 4) Job Watch)
+
+-- the word that a layer prints as
+abbrev pub layer_word : Layer → List ℕ
+layer_word Text = codes "text"
+layer_word Job = codes "job"
+layer_word Watch = codes "watch"
 
 abbrev pub finding : ℕ → ℕ → Finding
 finding n place = record { layer = layer_of n; number = n; place = place }

@@ -1,5 +1,7 @@
 -- The runs of a text: all that stands between two blanks.
 use Rattle.std.specs.Prelude.{ℕ, ◌+◌, Bool, true, false, cond, List, [], ◌∷◌, drop, Some, None, Ok, Err, Option, Result, ◌==◌, nat_le}
+use Rattle.job.specs.declared.tokens.Sort.{Sort}
+use Rattle.job.specs.declared.tokens.Sort.TheVariants.{Letter, Digit}
 
 -- where the run begins, counted from 0, and its bytes
 pub record Run : Type 0 where
@@ -39,9 +41,10 @@ letter b = cond (nat_le 97 b) (nat_le b 122) false
 abbrev pub digit : ℕ → Bool
 digit b = cond (nat_le 48 b) (nat_le b 57) false
 
--- the kind of byte that a run is made of: letters where that holds, otherwise digits
-abbrev pub of_sort : Bool → ℕ → Bool
-of_sort letters b = cond letters (letter b) (digit b)
+-- a byte of a sort
+abbrev pub of_sort : Sort → ℕ → Bool
+of_sort Letter b = letter b
+of_sort Digit b = digit b
 
 -- the place of the first byte that fails a test
 abbrev pub wrong : (ℕ → Bool) → ℕ → List ℕ → Option ℕ
@@ -49,14 +52,14 @@ wrong test place [] = None
 wrong test place (b ∷ bs) = cond (test b) (wrong test (place + 1) bs) (Some place)
 
 -- a run that begins with a letter is letters, any other is digits
-abbrev pub of_letters : List ℕ → Bool
-of_letters [] = false
-of_letters (b ∷ bs) = letter b
+abbrev pub sort_of : List ℕ → Sort
+sort_of [] = Digit
+sort_of (b ∷ bs) = cond (letter b) Letter Digit
 
--- whether a run is a word (true) or a number (false), or the place of the byte that spoils it
-abbrev pub sorted : Bool → Option ℕ → Result Bool ℕ
-sorted letters None = Ok letters
-sorted letters (Some place) = Err place
+-- the sort of a run, or the place of the byte that spoils it
+abbrev pub sorted : Sort → Option ℕ → Result Sort ℕ
+sorted s None = Ok s
+sorted s (Some place) = Err place
 
-abbrev pub sort : Run → Result Bool ℕ
-sort r = sorted (of_letters r.bytes) (wrong (of_sort (of_letters r.bytes)) r.place r.bytes)
+abbrev pub sort : Run → Result Sort ℕ
+sort r = sorted (sort_of r.bytes) (wrong (of_sort (sort_of r.bytes)) r.place r.bytes)

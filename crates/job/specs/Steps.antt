@@ -11,6 +11,8 @@ use Rattle.job.specs.declared.accepted.Kind.{Kind}
 use Rattle.job.specs.declared.expected.Section.TheVariants.{Size}
 use Rattle.job.specs.declared.expected.Expected.{Expected}
 use Rattle.job.specs.declared.expected.Expected.TheVariants.{KindWord, Title, Count, Number, PinNumber, End}
+use Rattle.job.specs.declared.tokens.Sort.{Sort}
+use Rattle.job.specs.declared.tokens.Sort.TheVariants.{Letter, Digit}
 use Rattle.job.specs.States.{State, state}
 use Rattle.job.specs.Taking.{count_step, number_step, pin_step}
 
@@ -53,9 +55,9 @@ abbrev pub digits_step : Expected → Content → List ℕ → ℕ → Result St
 digits_step e c ds place = cond (takes_number e) (read_step e c place (numeral ds)) (Err (finding 3 place))
 
 -- a word, a number, or a run that is spoiled at a place
-abbrev pub sort_step : State → Run → Result Bool ℕ → Result State Finding
-sort_step s r (Ok true) = word_step s.expected s.content r.bytes r.place
-sort_step s r (Ok false) = digits_step s.expected s.content r.bytes r.place
+abbrev pub sort_step : State → Run → Result Sort ℕ → Result State Finding
+sort_step s r (Ok Letter) = word_step s.expected s.content r.bytes r.place
+sort_step s r (Ok Digit) = digits_step s.expected s.content r.bytes r.place
 sort_step s r (Err place) = Err (finding 1 place)
 
 abbrev pub step : State → Run → Result State Finding

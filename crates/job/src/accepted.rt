@@ -1,9 +1,9 @@
 // A job as it is accepted.
-ghost use Rattle.std.specs.Prelude.{◌*◌, ◌≤◌};
-ghost use Rattle.tables.specs.Limits.{max_places};
-ghost use Rattle.job.specs.Limits.{max_pin_numbers, max_log};
+ghost use Rattle.std.specs.Prelude.{◌≤◌};
+ghost use Rattle.job.specs.Limits.{max_log};
 
 use crate::MAX_PINS;
+use arrayvec::ArrayVec;
 use tables::MAX_PLACES;
 
 pub mod lists;
@@ -16,7 +16,7 @@ pub enum Kind {
     Mixed { delta: u32, first: u32, second: u32 },
 }
 
-#[derive(Clone, Copy)]
+#[derive(Clone, Copy, Default)]
 pub struct Pin {
     pub event: u32,
     pub number: u32,
@@ -26,15 +26,9 @@ pub struct Pin {
 pub struct Job {
     pub kind: Kind,
     pub size: u32,
-    pub(crate) pins: [Pin; MAX_PINS],
-    // how many pins there are
-    pub(crate) pairs: usize,
-    pub(crate) trace: [u32; MAX_PLACES],
-    // how many places the trace has
-    pub(crate) places: usize,
-    // how many events the log has
+    pub(crate) pins: ArrayVec<Pin, MAX_PINS>,
+    pub(crate) trace: ArrayVec<u32, MAX_PLACES>,
+    // how many events the log has, which stand at the front of the list that was lent for it
     pub(crate) events: usize,
-    ghost few: { 2 * pairs ≤ max_pin_numbers },
-    ghost short: { places ≤ max_places },
     ghost logged: { events ≤ max_log },
 }

@@ -1,7 +1,8 @@
 // What is wrong with a text, and where.
-ghost use Rattle.std.specs.Prelude.{◌≡◌};
-ghost use Rattle.job.specs.Faults.{finding_of};
+ghost use Rattle.std.specs.Prelude.{◌≡◌, Some};
+ghost use Rattle.job.specs.Faults.{finding, cause_number, finding_of, layer_word};
 
+use std::fmt;
 use tables::refusal::Refusal;
 
 // The part of the program that a fault belongs to.
@@ -33,7 +34,29 @@ pub struct Fault {
     pub place: usize,
 }
 
+impl fmt::Display for Layer {
+    ghost output = { λ layer. Some (layer_word layer) };
+
+    fn fmt<W: fmt::Write>(&self, f: &mut fmt::Formatter<W>) -> fmt::Result {
+        match self {
+            Layer::Text => write!(f, "text"),
+            Layer::Job => write!(f, "job"),
+            Layer::Watch => write!(f, "watch"),
+        }
+    }
+}
+
+impl Cause {
+    // The fault at a place.
+    pub(crate) fn at(self, place: usize) -> Fault
+        ensures { finding_of result ≡ finding (cause_number self) place }
+    {
+        Fault { cause: self, place }
+    }
+}
+
 impl Fault {
+    // A cause that carries a refusal has no discriminant to cast, so the numbers stand in a match.
     pub fn number(&self) -> u8
         ensures { result ≡ (finding_of self.now).number }
     {

@@ -5,8 +5,6 @@
 #![tactic(auto)]
 
 ghost use Rattle.std.specs.Prelude.{◌≡◌};
-ghost use Rattle.job.specs.Limits.{max_text};
-ghost use Rattle.job.specs.Faults.{finding, finding_of};
 ghost use Rattle.job.specs.Reading.{read, events_read, written};
 ghost use Rattle.job.specs.Laws.{ReadingLaws};
 ghost use Rattle.job.specs.Answers.{told};
@@ -20,7 +18,6 @@ pub mod tokens;
 use accepted::Job;
 use fault::{Cause, Fault};
 use reader::Reader;
-use tables::MAX_SIZE;
 use tokens::{Token, Tokens};
 
 // The most bytes of a text.
@@ -38,9 +35,6 @@ pub const MAX_LOG: usize = 4_096;
 // The most pins.
 const MAX_PINS: usize = MAX_PIN_NUMBERS as usize / 2;
 
-// A place for each event, counted from 0; place 0 is never used.
-const PIN_PLACES: usize = MAX_SIZE as usize + 1;
-
 // The job that a text tells, its log at the front of the lent list, or the first fault. The events that are read before
 // a fault stand in the lent list too, and nothing else of it changes.
 pub fn read_job(text: &[u8], log: &mut [u32; MAX_LOG]) -> Result<Job, Fault>
@@ -49,7 +43,7 @@ pub fn read_job(text: &[u8], log: &mut [u32; MAX_LOG]) -> Result<Job, Fault>
     ensures laws { ReadingLaws }
 {
     if text.len() > MAX_TEXT {
-        return Err(too_long());
+        return Err(Cause::Limit.at(MAX_TEXT));
     }
     let mut tokens = Tokens::new(text);
     let mut reader = Reader::new();
@@ -58,15 +52,5 @@ pub fn read_job(text: &[u8], log: &mut [u32; MAX_LOG]) -> Result<Job, Fault>
             Token::End { place } => return reader.finish(place),
             token => reader.accept(token, log)?,
         }
-    }
-}
-
-// The fault of a text with too many bytes.
-fn too_long() -> Fault
-    ensures { finding_of result ≡ finding 4 max_text }
-{
-    Fault {
-        cause: Cause::Limit,
-        place: MAX_TEXT,
     }
 }

@@ -1,21 +1,54 @@
 // The tokens of a text: its runs, borrowed from it.
-ghost use Rattle.std.specs.Prelude.{◌≡◌, ◌-◌, ◌<◌, ◌≤◌, true, false, length, drop, IsAscii, slice_index, slice_range};
-ghost use Rattle.job.specs.Runs.{blank, front, runs_from, runs_at, letter, of_sort, wrong};
-ghost use Rattle.job.specs.Answers.{Next};
+ghost use Rattle.std.specs.Prelude.{◌≡◌, ◌<◌, ◌≤◌, length, not, IfSome, IsAscii};
+ghost use Rattle.std.specs.List.{prefix_len, position};
+ghost use Rattle.job.specs.Runs.{blank, of_sort, sort_of};
 
 use crate::fault::{Cause, Fault};
+use numeral::Numeral;
+
+pub mod numeral;
+
+// The sort of byte that a run is made of.
+#[derive(Clone, Copy)]
+enum Sort {
+    Letter,
+    Digit,
+}
 
 #[derive(Clone, Copy)]
 pub enum Token<'a> {
     Word { run: &'a str, place: usize },
-    Digits { run: &'a [u8], place: usize },
+    Digits { run: Numeral<'a>, place: usize },
     End { place: usize },
 }
 
 #[derive(Drop)]
 pub struct Tokens<'a> {
     text: &'a [u8],
+    // where the next run is looked for
     place: usize,
+    ghost within: { place ≤ length text.now },
+}
+
+impl Sort {
+    // The sort of a run, by its first byte.
+    fn of(run: &[u8]) -> Sort
+        ensures { result ≡ sort_of run.now }
+    {
+        match run {
+            [first, ..] if first.is_ascii_lowercase() => Sort::Letter,
+            _ => Sort::Digit,
+        }
+    }
+
+    fn has(self, b: u8) -> bool
+        ensures { result ≡ of_sort self b }
+    {
+        match self {
+            Sort::Letter => b.is_ascii_lowercase(),
+            Sort::Digit => b.is_ascii_digit(),
+        }
+    }
 }
 
 fn is_blank(b: u8) -> bool
@@ -24,72 +57,57 @@ fn is_blank(b: u8) -> bool
     b == b' ' || b == b'\n'
 }
 
-// Whether a byte is a letter, or whether it is a digit.
-fn is_of_sort(letters: bool, b: u8) -> bool
-    ensures { result ≡ of_sort letters b }
+// How many blanks stand in front. `run_len` differs in the test alone; one function for both would take the test as a
+// flag or a closure, and its contract would have to speak of it.
+fn blanks(rest: &[u8]) -> usize
+    ensures value { result ≡ prefix_len blank rest.now }
+    ensures within { result ≤ length rest.now }
 {
-    if letters {
-        b >= b'a' && b <= b'z'
-    } else {
-        b >= b'0' && b <= b'9'
-    }
+    rest.iter().take_while(|b| is_blank(**b)).count()
 }
 
-// Where the next run begins, or the text's end.
-fn run_start(text: &[u8], from: usize) -> usize
-    requires { from ≤ length text.now }
-    ensures order { (from ≤ result) × (result ≤ length text.now) }
-    ensures runs { runs_at from text.now ≡ runs_at result text.now }
-    ensures stops { result < length text.now → blank (slice_index text.now result) ≡ false }
+// How many bytes stand before the first blank.
+fn run_len(rest: &[u8]) -> usize
+    ensures value { result ≡ prefix_len (λ b. not (blank b)) rest.now }
+    ensures within { result ≤ length rest.now }
 {
-    for i in from..text.len() {
-        if !is_blank(text[i]) {
-            return i;
-        }
-    }
-    text.len()
+    rest.iter().take_while(|b| !is_blank(**b)).count()
 }
 
-// Where the run that begins at a place ends.
-fn run_end(text: &[u8], from: usize) -> usize
-    requires { from ≤ length text.now }
-    ensures order { (from ≤ result) × (result ≤ length text.now) }
-    ensures front { front (drop from text.now) ≡ slice_range text.now from result }
-    ensures runs { runs_from true from (drop from text.now) ≡ runs_at result text.now }
+// How many bytes stand before the first one that is not of the sort, if there is one.
+fn spoiled(run: &[u8], sort: Sort) -> Option<usize>
+    ensures value { result ≡ position (λ b. not (of_sort sort b)) run.now }
+    ensures within { IfSome result (λ n. n < length run.now) }
 {
-    for i in from..text.len() {
-        if is_blank(text[i]) {
-            return i;
-        }
-    }
-    text.len()
-}
-
-// The place of the first byte of a run that is not of its sort.
-fn spoiled(text: &[u8], from: usize, to: usize, letters: bool) -> Option<usize>
-    requires { (from ≤ to) × (to ≤ length text.now) }
-    ensures { result ≡ wrong (of_sort letters) from (slice_range text.now from to) }
-{
-    for i in from..to {
-        if !is_of_sort(letters, text[i]) {
-            return Some(i);
-        }
-    }
-    None
+    run.iter().position(|b| !sort.has(*b))
 }
 
 // Bytes below 128 as text.
-pub(crate) fn ascii(run: &[u8]) -> &str
+fn ascii(run: &[u8]) -> &str
     requires { IsAscii run.now }
     ensures { result.now ≡ run.now }
 {
-    match std::str::from_utf8(run) {
-        Ok(s) => s,
-        Err(_) => unreachable(),
+    std::str::from_utf8(run).unwrap()
+}
+
+impl<'a> Token<'a> {
+    ghost use Rattle.std.specs.Prelude.{◌≡◌};
+    ghost use Rattle.job.specs.Answers.{token_place};
+
+    pub(crate) fn place(self) -> usize
+        ensures { result ≡ token_place self.entry }
+    {
+        match self {
+            Token::Word { place, .. } | Token::Digits { place, .. } | Token::End { place } => place,
+        }
     }
 }
 
 impl<'a> Tokens<'a> {
+    ghost use Rattle.std.specs.Prelude.{◌≡◌, ◌+◌, ◌<◌, [], ◌∷◌, length, IfNone, IfSome, OnSome};
+    ghost use Rattle.job.specs.Answers.{Next};
+    ghost use Rattle.job.specs.Runs.{run_at, runs_at};
+
     pub(crate) fn new(text: &'a [u8]) -> Tokens<'a>
         ensures text { result.text ≡ text.entry }
         ensures place { result.place ≡ 0 }
@@ -97,36 +115,45 @@ impl<'a> Tokens<'a> {
         Tokens { text, place: 0 }
     }
 
-    // The next run as a token, or the fault of a byte that spoils it.
-    pub(crate) fn next_token(&mut self) -> Result<Token<'a>, Fault>
-        requires { self.old.place ≤ length self.old.text.now }
-        ensures next { Next self.old.text.now self.old.place self.new.place result }
+    // Where the next run begins and its bytes, none where only blanks are left.
+    fn next_run(&mut self) -> Option<(usize, &'a [u8])>
+        ensures none { IfNone result ((runs_at self.old.place self.old.text.now ≡ []) × (self.new.place ≡ length self.old.text.now)) }
+        ensures some { IfSome result (λ r. runs_at self.old.place self.old.text.now ≡ run_at r.0 r.1.now ∷ runs_at self.new.place self.old.text.now) }
+        ensures bytes { IfSome result (λ r. (0 < length r.1.now) × (self.new.place ≡ r.0 + length r.1.now)) }
+        ensures on { OnSome result (self.old.place < self.new.place) }
         ensures text { self.new.text ≡ self.old.text }
-        ensures bound { self.new.place ≤ length self.old.text.now }
     {
         let text = self.text;
-        let start = run_start(text, self.place);
-        if start == text.len() {
-            self.place = start;
-            return Ok(Token::End { place: start });
-        }
-        let end = run_end(text, start);
-        self.place = end;
-        let letters = is_of_sort(true, text[start]);
-        if let Some(place) = spoiled(text, start, end, letters) {
-            return Err(Fault {
-                cause: Cause::Byte,
-                place,
-            });
-        }
-        let run = &text[start..end];
-        if letters {
-            Ok(Token::Word {
-                run: ascii(run),
-                place: start,
-            })
+        let place = self.place + blanks(&text[self.place..]);
+        let rest = &text[place..];
+        let run = &rest[..run_len(rest)];
+        self.place = place + run.len();
+        if run.is_empty() {
+            None
         } else {
-            Ok(Token::Digits { run, place: start })
+            Some((place, run))
+        }
+    }
+
+    // The next run as a token, or the fault of a byte that spoils it.
+    pub(crate) fn next_token(&mut self) -> Result<Token<'a>, Fault>
+        ensures next { Next self.old.text.now self.old.place self.new.place result }
+        ensures text { self.new.text ≡ self.old.text }
+    {
+        let Some((place, run)) = self.next_run() else {
+            return Ok(Token::End { place: self.place });
+        };
+        let sort = Sort::of(run);
+        if let Some(n) = spoiled(run, sort) {
+            return Err(Cause::Byte.at(place + n));
+        }
+        let run = ascii(run);
+        match sort {
+            Sort::Letter => Ok(Token::Word { run, place }),
+            Sort::Digit => Ok(Token::Digits {
+                run: Numeral { digits: run },
+                place,
+            }),
         }
     }
 }

@@ -1,5 +1,5 @@
 -- From seats to the lists that are handed out: the renumbering, its prices, and what stays beyond the size.
-use Rattle.std.proofs.Common.{◌≡◌, ℕ, ◌+◌, ◌-◌, ◌≤◌, true, List, length, get_or, take, drop, is_some, Some, None, Option, sym, refl, ap, ◌∙◌, arith, length-drop}
+use Rattle.std.proofs.Common.{◌≡◌, ℕ, ◌+◌, ◌-◌, ◌≤◌, true, List, length, get_or, take, drop, Some, None, sym, refl, ap, ◌∙◌, arith, length-drop}
 use Rattle.std.proofs.lemmas.List.{ext_get_or, get_or-drop, get_or-take, length-take-le}
 use Rattle.std.proofs.lemmas.Bool.{cond-true}
 use Rattle.costs.specs.Kind.{Kind, Laws}
@@ -25,18 +25,10 @@ same_beyond k s before after len past =
     let at : s + i + 1 - 1 ≡ s + i = omega arith in
     get_or-drop s after i k.zero ∙ ap (λ n. get_or after n k.zero) (sym at) ∙ past (s + i + 1) (omega arith) ∙ ap (λ n. get_or before n k.zero) at ∙ sym (get_or-drop s before i k.zero))
 
-some_number : (o : Option ℕ) → 1 ≤ or_none o → is_some o ≡ true
-some_number None h = absurd (omega arith)
-some_number (Some n) h = refl
-
 open_some : {C : Type 0} (x : Grade C) (y : C) → x ≡ Open y → is_open x ≡ true
 open_some x y e = ap is_open e
 
 module _ {C : Type 0} (k : Kind C) (g : ℕ → ℕ → Grade C) (s : ℕ) (seats : Seats) (v : ℕ → C) (seated : Seated k g s seats v) (all : (i : ℕ) → Within s i → 1 ≤ seat_in seats i) where
-  -- each event has a number
-  pub each_seated : (r : ℕ) → Within s r → is_some (listed seats.numbers None r) ≡ true
-  each_seated r w = some_number (listed seats.numbers None r) (all r w)
-
   module _ (numbers : List ℕ) (written : (r : ℕ) → Within s r → Some (listed numbers 0 r) ≡ listed seats.numbers None r) where
     number_is : (r : ℕ) → Within s r → listed numbers 0 r ≡ seat_in seats r
     number_is r w = ap or_none (written r w)

@@ -1,7 +1,7 @@
 -- The grades of all pairs as they are read: the grid at its place, and its bit rows of open numbers.
-use Rattle.std.proofs.Common.{◌≡◌, ℕ, ◌+◌, ◌-◌, ◌*◌, ◌^◌, ◌<◌, ◌≤◌, List, ◌++◌, length, get_or, set, ap, ◌∙◌, subst, arith}
+use Rattle.std.proofs.Common.{◌≡◌, ℕ, suc, ◌+◌, ◌-◌, ◌*◌, ◌^◌, ◌<◌, ◌≤◌, List, ◌++◌, length, get_or, set, sym, ap, ◌∙◌, subst, arith}
 use Rattle.std.specs.List.{between}
-use Rattle.std.proofs.lemmas.List.Edits.{length-between, get_or-between}
+use Rattle.std.proofs.lemmas.List.Edits.{length-between}
 use Rattle.std.proofs.lemmas.Nat.{mul-add-lt}
 use Rattle.std.proofs.lemmas.List.{length-set, get_or_append_left}
 use Rattle.tables.specs.Table.{Table, Within, pair_at, GridOf}
@@ -11,7 +11,7 @@ use Rattle.judge.specs.Allowed.{is_open}
 use Rattle.judge.specs.BitRows.{stands_in}
 use Rattle.judge.specs.Grades.{grade_in}
 use Rattle.judge.specs.Rows.{listed}
-use Rattle.judge.proofs.Written.{written_more}
+use Rattle.judge.proofs.Written.{listed_next, written_more}
 
 module _ {C : Type 0} (grades : List (Grade C)) (s : ℕ) where
   -- the row of open numbers of event r
@@ -20,25 +20,26 @@ module _ {C : Type 0} (grades : List (Grade C)) (s : ℕ) where
 
   -- the rows of the first n events
   pub record RowsTo (n : ℕ) (rows : List ℕ) : Type 0 where
-    pub wide : length rows ≡ 32
+    pub wide : s ≤ length rows
     pub rows_of : (r : ℕ) → Within n r → RowOf r (listed rows 0 r)
 
-  -- one row more, read from the grades of event n + 1
-  pub rows_more : (n : ℕ) (rows : List ℕ) (row : ℕ) (part : List (Grade C)) → n < s → s ≤ 32 → n * s + s ≤ length grades → part ≡ between (n * s) (n * s + s) grades
+  -- one row more, of the grades of event n + 1
+  pub rows_more : (n : ℕ) (rows : List ℕ) (row : ℕ) (part : List (Grade C)) → n < s → length part ≡ s → ((c : ℕ) → Within s c → listed part Closed c ≡ grade_in grades s (suc n) c)
       → ((c : ℕ) → Within (length part) c → stands_in row c ≡ is_open (listed part Closed c)) → row < 2 ^ length part
       → RowsTo n rows → RowsTo (n + 1) (set rows n row)
-  rows_more n rows row part h small inside is bits below to =
-      let long : length part ≡ s = ap length is ∙ length-between grades (n * s) (n * s + s) inside ∙ omega arith in
+  rows_more n rows row part h long is bits below to =
       let wide = to.wide in
-      let back : n ≡ n + 1 - 1 = omega arith in
-      let place : (c : ℕ) → Within s c → listed part Closed c ≡ grade_in grades s (n + 1) c = λ c w.
-      ap (λ (l : List (Grade C)). get_or l (c - 1) Closed) is
-      ∙ get_or-between grades (n * s) (n * s + s) (c - 1) Closed (omega (arith, w))
-      ∙ ap (λ (z : ℕ). get_or grades (z * s + (c - 1)) Closed) back in
+      let up : suc n ≡ n + 1 = omega arith in
       record {
-        wide = length-set rows n row ∙ wide;
-        rows_of = written_more RowOf rows n 0 row (omega arith) to.rows_of ((λ c w. bits c (omega (arith, w)) ∙ ap is_open (place c w)), subst (λ (z : ℕ). row < 2 ^ z) long below);
+        wide = omega (arith, length-set rows n row);
+        rows_of = written_more RowOf rows n 0 row (omega arith) to.rows_of ((λ c w. bits c (omega (arith, w)) ∙ ap is_open (is c w ∙ ap (λ (r : ℕ). grade_in grades s r c) up)), subst (λ (z : ℕ). row < 2 ^ z) long below);
       }
+
+  -- all rows, at the start of a longer list
+  pub rows_first : (n : ℕ) (rows rest : List ℕ) → n ≡ s → RowsTo n rows → (r : ℕ) → r < s → RowOf (r + 1) (get_or (rows ++ rest) r 0)
+  rows_first n rows rest all to r h =
+      let wide = to.wide in
+      subst (RowOf (r + 1)) (sym (get_or_append_left rows rest 0 r (omega arith) ∙ sym (listed_next rows 0 r))) (to.rows_of (r + 1) (omega arith))
 
 -- the grid of a table at the start of a longer list
 pub graded_first : {C : Type 0} (t : Table C) (s : ℕ) (ys rest : List (Grade C)) → s ≡ t.size → length ys ≡ s * s → GridOf t ys → (r c : ℕ) → Within s r → Within s c → grade_in (ys ++ rest) s r c ≡ pair_at t r c

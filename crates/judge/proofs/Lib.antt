@@ -27,7 +27,6 @@ pub mod Holders
 pub mod MarkedRow
 pub mod Matched
 pub mod Blocked
-pub mod Grids
 pub mod Turned
 pub mod Written
 pub mod OpenRows

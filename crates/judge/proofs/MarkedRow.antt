@@ -1,19 +1,14 @@
 -- The row of marked events, one number after another.
-use Rattle.std.proofs.Common.{◌≡◌, ℕ, ◌+◌, ◌^◌, get_or, Some, None, Option, sym, subst, inl, inr, arith, MatchOption}
+use Rattle.std.proofs.Common.{ℕ, ◌+◌, ◌^◌, get_or, None, sym, subst, inl, inr, arith}
 use lib.Bits.{bit_or}
 use Rattle.std.proofs.lemmas.Bool.{cases_eq}
 use Rattle.judge.specs.BitRows.{Has}
-use Rattle.judge.specs.declared.matching.Seats.{Seats}
-use Rattle.judge.specs.Matching.{TriedBy, Marks}
+use Rattle.judge.specs.declared.matching.Matching.{Matching}
+use Rattle.judge.specs.Moves.{TriedBy, Marks}
 use Rattle.judge.proofs.Bits.{power_has, power_only, or_left_has, or_right_has, or_has}
-use Rattle.judge.proofs.Holders.{none_holds, one_holder}
+use Rattle.judge.proofs.Holders.{one_holder}
 
--- who holds a tried number
-pub tried_by : (seats : Seats) (n : ℕ) (o : Option ℕ) → o ≡ get_or seats.holders n None → (Has seats.untried n → ⊥) → MatchOption o ((e : ℕ) → TriedBy seats e n → ⊥) (λ e. TriedBy seats e n)
-tried_by seats n None is gone = λ e h. none_holds (get_or seats.holders n None) e (sym is) h.0
-tried_by seats n (Some e) is gone = (sym is, gone)
-
-module _ (seats : Seats) (event : ℕ) where
+module _ (seats : Matching) (event : ℕ) where
   -- the event alone
   pub marks_none : Marks seats event 0 (2 ^ event)
   marks_none = record { root = power_has event; holder = λ e c l h. absurd (omega arith); only = λ e h. inl (power_only event e h) }

@@ -1,11 +1,12 @@
 -- Marks for a set of events.
-use Rattle.std.proofs.Common.{◌≡◌, ℕ, zero, suc, ◌+◌, ◌-◌, ◌/◌, ◌%◌, ◌^◌, ◌<◌, ◌≤◌, Bool, true, false, cond, eqb, ◌⊎◌, List, ◌∷◌, map, length, get_or, drop, set, filter, sym, refl, ap, ◌∙◌, subst, inl, inr, arith, drop-drop, drop-set-lt}
+use Rattle.std.proofs.Common.{◌≡◌, ℕ, zero, suc, ◌+◌, ◌-◌, ◌/◌, ◌%◌, ◌^◌, ◌<◌, ◌≤◌, Bool, true, false, cond, eqb, ◌⊎◌, List, ◌∷◌, map, length, get_or, drop, set, filter, sym, refl, ap, ◌∙◌, subst, inl, inr, ◌++◌, arith}
 use lib.Bits.{bit_and}
 use Rattle.std.specs.List.{range_with_len}
 use Rattle.std.proofs.lemmas.Nat.{and_mask}
 use Rattle.std.proofs.lemmas.List.FromFn.{get_or-map-range_with_len}
-use Rattle.std.proofs.lemmas.List.{get_or-set_same, get_or-set_other}
-use Rattle.std.proofs.lemmas.Bool.{cases_eq}
+use Rattle.std.proofs.lemmas.List.{get_or-set_same, get_or-set_other, get_or_append_left}
+use Rattle.std.proofs.lemmas.Slice.{drop-append-drop}
+use borrow.Author.Count.{below_more}
 use Rattle.tables.specs.Table.{Within}
 use Rattle.tables.specs.declared.grade.Grade.{Grade}
 use Rattle.judge.specs.Renumbering.{up_to}
@@ -40,9 +41,9 @@ pub marks_are : (p : ℕ → Bool) (s r : ℕ) → Within s r → is_marked (mar
 unfolding marks_of mark
 marks_are p s r w = ap (λ (z : ℕ). eqb z 1) (get_or-map-range_with_len (mark p) 1 s (r - 1) r 0 (omega (arith, w)) (omega (arith, w))) ∙ mark_is (p r)
 
--- no mark is written yet
-pub written_none : (row : ℕ) (marks : List ℕ) → Written row 0 marks marks
-written_none row marks = record { marks = λ r w. absurd (omega (arith, w)); rest = refl }
+-- each place below n has the mark of its event
+abbrev pub MarkedBelow : ℕ → ℕ → List ℕ → Type 0
+MarkedBelow row n marks = (j : ℕ) → j < n → get_or marks j 0 ≡ cond (stands_in row (j + 1)) 1 0
 
 -- a bit is the mark of its event
 bit_mark : (n : ℕ) → n < 2 → n ≡ cond (eqb n 1) 1 0
@@ -50,22 +51,23 @@ bit_mark zero l = refl
 bit_mark (suc zero) l = refl
 bit_mark (suc (suc n)) l = absurd (omega arith)
 
--- what stands at a place after it is written
-get_d_set_at : (xs : List ℕ) (i j v : ℕ) → j ≡ i → i < length xs → get_or (set xs i v) j 0 ≡ v
-get_d_set_at xs i j v same l = ap (λ (k : ℕ). get_or (set xs i v) k 0) same ∙ get_or-set_same xs i v 0 l
-
 -- one mark more
-pub written_more : (row i : ℕ) (before after : List ℕ) → i < length after → Written row i before after → Written row (i + 1) before (set after i (bit_and (row / 2 ^ i) 1))
-written_more row i before after l w = record {
-  marks = λ r within. elim (cases_eq (r - 1) i) [
-    | inl same ↦
-        get_d_set_at after i (r - 1) (bit_and (row / 2 ^ i) 1) same l
-        ∙ and_mask (row / 2 ^ i) 1
-        ∙ ap (λ (k : ℕ). row / 2 ^ k % 2) (sym same)
-        ∙ bit_mark (row / 2 ^ (r - 1) % 2) (omega arith)
-    | inr other ↦ get_or-set_other after i (r - 1) (bit_and (row / 2 ^ i) 1) 0 other ∙ w.marks r (omega (arith, within))
-  ];
-  rest = drop-set-lt (i + 1) after i (bit_and (row / 2 ^ i) 1) (omega arith) ∙ sym (drop-drop 1 i after) ∙ ap (drop 1) w.rest ∙ drop-drop 1 i before;
+pub marked_more : (row i : ℕ) (marks : List ℕ) → i < length marks → MarkedBelow row i marks → MarkedBelow row (i + 1) (set marks i (bit_and (row / 2 ^ i) 1))
+marked_more row i marks l below = below_more (λ j. get_or (set marks i (bit_and (row / 2 ^ i) 1)) j 0 ≡ cond (stands_in row (j + 1)) 1 0) i
+    (λ j h. get_or-set_other marks i j (bit_and (row / 2 ^ i) 1) 0 (λ (same : j ≡ i). omega arith) ∙ below j h)
+    (let back : i + 1 - 1 ≡ i = omega arith in
+    get_or-set_same marks i (bit_and (row / 2 ^ i) 1) 0 l
+    ∙ and_mask (row / 2 ^ i) 1
+    ∙ bit_mark (row / 2 ^ i % 2) (omega arith)
+    ∙ ap (λ (k : ℕ). cond (eqb (row / 2 ^ k % 2) 1) 1 0) (sym back))
+
+-- the marks at the front of a list
+pub written_front : (row s : ℕ) (before marks : List ℕ) → length marks ≡ s → MarkedBelow row s marks → Written row s before (marks ++ drop s before)
+written_front row s before marks len below = record {
+  marks = λ r w.
+      (let back : r - 1 + 1 ≡ r = omega (arith, w) in
+      get_or_append_left marks (drop s before) 0 (r - 1) (omega (arith, w, len)) ∙ below (r - 1) (omega (arith, w)) ∙ ap (λ (n : ℕ). cond (stands_in row n) 1 0) back);
+  rest = drop-append-drop s before marks s (omega arith) len;
 }
 
 module _ (row s : ℕ) (before after : List ℕ) (w : Written row s before after) where

@@ -4,11 +4,14 @@ use Rattle.std.proofs.lemmas.List.{length-replicate}
 use Rattle.std.proofs.ByRecursion.{All-from_get_or}
 use Rattle.std.proofs.lemmas.Bool.{cases_eq, eqb-true, eq-eqb, eqb-false, ne_eqb, not-true, not_from_false}
 use Rattle.judge.specs.BitRows.{Has, Shut, stands_in, open_in}
-use Rattle.judge.specs.Matching.{Holds, Seated, Filled, Placed, Joined, Tried, Marks, Renumbered}
-use Rattle.judge.specs.declared.matching.Seats.{Seats}
+use Rattle.judge.specs.Matching.{Holds, Seated, Filled, Placed, Tried, Renumbered}
+use Rattle.judge.specs.Moves.{Joined, Refused, Marks}
+use Rattle.judge.specs.declared.matching.Matching.{Matching}
+use Rattle.tables.specs.Limits.{max_size}
 use Rattle.tables.specs.Table.{Within}
 use Rattle.judge.specs.Marks.{events_in, Short}
-use Rattle.judge.proofs.Bits.{has_below, full_has}
+use Rattle.std.proofs.lemmas.Nat.Bits.{bit_at_ones}
+use Rattle.judge.proofs.Bits.{has_below}
 use Rattle.judge.proofs.Holders.{none_holds, one_holder}
 use Rattle.judge.proofs.Settled.{apart_places}
 use Rattle.judge.proofs.Crowds.{crowded}
@@ -20,10 +23,9 @@ nobody (suc n) e zero h = none_holds (get_or (replicate (suc n) None) 0 None) e 
 nobody (suc n) e (suc c) h = nobody n e c h
 
 -- so its holders are placed rightly
-pub placed_none : (rows : List ℕ) (n : ℕ) → length rows ≡ n → Placed rows (replicate n None)
+pub placed_none : (rows : List ℕ) (n : ℕ) → n ≡ max_size → Placed rows (replicate n None)
 placed_none rows n l = record {
-  long = length-replicate n None ∙ sym l;
-  known = λ e c h. absurd (nobody n e c h);
+  long = length-replicate n None ∙ l;
   sound = λ e c h. absurd (nobody n e c h);
   once = λ e c d h k. absurd (nobody n e c h);
 }
@@ -33,8 +35,8 @@ pub filled_none : (n : ℕ) → Filled (replicate n None) 0
 filled_none n e = (λ l. absurd (omega arith), λ s. absurd (nobody n e s.0 s.1))
 
 -- one event more is seated
-pub filled_more : (rows : List ℕ) (before after : Seats) (n : ℕ) → Joined rows before after n → Filled before.holders n → Filled after.holders (n + 1)
-filled_more rows before after n j f e = (
+pub filled_more : (before after : Matching) (n : ℕ) → Joined before after n → Filled before.holders n → Filled after.holders (n + 1)
+filled_more before after n j f e = (
   λ l. elim (cases_eq e n) [ inl same ↦ subst (λ (x : ℕ). Seated after.holders x) (sym same) j.here | inr other ↦ j.stay e ((f e).0 (omega arith)) ],
   λ s. elim (j.only e s) [ inl t ↦ omega (arith, (f e).1 t) | inr same ↦ omega arith ],
 )
@@ -55,53 +57,64 @@ choices P (suc n) f =
 abbrev Numbered : List (Option ℕ) → ℕ → ℕ → Type 0
 Numbered holders e c = (1 ≤ c) × Holds holders e (c - 1)
 
-module _ (rows : List ℕ) (holders : List (Option ℕ)) (size : ℕ) (low : (r : ℕ) → r < size → get_or rows r 0 < 2 ^ size) (placed : Placed rows holders) where
+module _ (rows : List ℕ) (seats : Matching) (size : ℕ) (low : (r : ℕ) → r < size → get_or rows r 0 < 2 ^ size) (same : seats.rows ≡ rows) where
+  -- each held number is open to its holder
+  sound : (e c : ℕ) → Holds seats.holders e c → Has (get_or rows e 0) c
+  sound e c h = subst (λ (rs : List ℕ). Has (get_or rs e 0) c) same (seats.placed.sound e c h)
+
   -- each event has a number
-  pub all_seated : Filled holders size → Renumbered (open_in rows) size
-  all_seated filled = listed (choices (Numbered holders) size (λ e l. let t = (filled e).0 l in (t.0 + 1, (omega arith, subst (λ (c : ℕ). Holds holders e c) (omega arith) t.1))))
+  pub all_seated : Filled seats.holders size → Renumbered (open_in rows) size
+  all_seated filled = listed (choices (Numbered seats.holders) size (λ e l. let t = (filled e).0 l in (t.0 + 1, (omega arith, subst (λ (c : ℕ). Holds seats.holders e c) (omega arith) t.1))))
     where
-      listed : (ns : List ℕ) × (length ns ≡ size) × ((e : ℕ) → e < size → Numbered holders e (get_or ns e 0)) → Renumbered (open_in rows) size
+      listed : (ns : List ℕ) × (length ns ≡ size) × ((e : ℕ) → e < size → Numbered seats.holders e (get_or ns e 0)) → Renumbered (open_in rows) size
       listed t =
           let ns = t.0 in
-          let at_place = λ (e : ℕ) (l : e < size). placed.sound e (get_or ns e 0 - 1) (t.2 e l).1 in (
+          let at_place = λ (e : ℕ) (l : e < size). sound e (get_or ns e 0 - 1) (t.2 e l).1 in (
             ns,
             (
               t.1,
               All-from_get_or (Within size) ns 0 (λ i l. let m : i < size = omega (arith, t.1) in ((t.2 i m).0, omega (arith, has_below size (get_or rows i 0) (get_or ns i 0 - 1) (low i m) (at_place i m)))),
-              apart_places ns (λ i j p q e. one_holder (get_or holders (get_or ns i 0 - 1) None) i j (t.2 i (omega (arith, t.1))).1 (subst (λ (x : ℕ). Holds holders j (x - 1)) (sym e) (t.2 j (omega (arith, t.1))).1)),
+              apart_places ns (λ i j p q e. one_holder (get_or seats.holders (get_or ns i 0 - 1) None) i j (t.2 i (omega (arith, t.1))).1 (subst (λ (x : ℕ). Holds seats.holders j (x - 1)) (sym e) (t.2 j (omega (arith, t.1))).1)),
             ),
             λ r w. eq-eqb _ _ (at_place (r - 1) (omega arith)),
           )
 
   -- an event found no number
-  module _ (w event rest marked : ℕ) (more : event < size) (wide : size ≤ w) (filled : Filled holders event) (tried : Tried rows holders (2 ^ w - 1) rest)
-      (shut : Shut (get_or rows event 0) rest) (marks : Marks (record { holders = holders; untried = rest }) event w marked) where
+  module _ (w event marked : ℕ) (more : event < size) (wide : size ≤ w) (before : Matching) (full : before.untried ≡ 2 ^ w - 1) (filled : Filled before.holders event) (refused : Refused before seats event) (marks : Marks seats event w marked) where
+    tried : Tried rows seats.holders (2 ^ w - 1) seats.untried
+    tried c was gone =
+        let t = refused.tried c (subst (λ (row : ℕ). Has row c) (sym full) was) gone in
+        (t.0, subst (λ (hs : List (Option ℕ)). Holds hs t.0 c) (sym refused.same) t.1, subst (λ (rs : List ℕ). Shut (get_or rs t.0 0) seats.untried) (sym refused.rows ∙ same) t.2)
+
+    shut : Shut (get_or rows event 0) seats.untried
+    shut = subst (λ (rs : List ℕ). Shut (get_or rs event 0) seats.untried) (sym refused.rows ∙ same) refused.shut
+
     -- the holder of number c, counting from 1
     holder-of : Option ℕ → ℕ
     holder-of None = 0
     holder-of (Some e) = e + 1
 
     -- a tried number has a holder below the event, who is marked
-    stuck : (c : ℕ) → Within size c → not (stands_in rest c) ≡ true → (e : ℕ) × Holds holders e (c - 1) × (e < event) × Has marked e × (holder-of (get_or holders (c - 1) None) ≡ e + 1)
+    stuck : (c : ℕ) → Within size c → not (stands_in seats.untried c) ≡ true → (e : ℕ) × Holds seats.holders e (c - 1) × (e < event) × Has marked e × (holder-of (get_or seats.holders (c - 1) None) ≡ e + 1)
     unfolding holder-of
     stuck c in-range d =
-        let gone = eqb-false (rest / 2 ^ (c - 1) % 2) 1 (not-true (stands_in rest c) d) in
-        let t = tried (c - 1) (full_has w (c - 1) (omega arith)) gone in
-        (t.0, t.1, (filled t.0).1 (c - 1, t.1), marks.holder t.0 (c - 1) (omega arith) (t.1, gone), ap holder-of t.1)
+        let gone = eqb-false (seats.untried / 2 ^ (c - 1) % 2) 1 (not-true (stands_in seats.untried c) d) in
+        let t = tried (c - 1) (bit_at_ones w (c - 1) (omega arith)) gone in
+        (t.0, t.1, (filled t.0).1 (c - 1, subst (λ (hs : List (Option ℕ)). Holds hs t.0 (c - 1)) refused.same t.1), marks.holder t.0 (c - 1) (omega arith) (t.1, gone), ap holder-of t.1)
 
     -- no number that is left is open to a marked event
-    closed : (r : ℕ) → Within size r → Has marked (r - 1) → Shut (get_or rows (r - 1) 0) rest
+    closed : (r : ℕ) → Within size r → Has marked (r - 1) → Shut (get_or rows (r - 1) 0) seats.untried
     closed r in-range m = elim (marks.only (r - 1) m) [
-      | inl same ↦ subst (λ (e : ℕ). Shut (get_or rows e 0) rest) (sym same) shut
+      | inl same ↦ subst (λ (e : ℕ). Shut (get_or rows e 0) seats.untried) (sym same) shut
       | inr by ↦
-          (let below = has_below size (get_or rows (r - 1) 0) by.0 (low (r - 1) (omega arith)) (placed.sound (r - 1) by.0 by.1.0) in
-          let t = tried by.0 (full_has w by.0 (omega arith)) by.1.1 in
-          subst (λ (e : ℕ). Shut (get_or rows e 0) rest) (one_holder (get_or holders by.0 None) t.0 (r - 1) t.1 by.1.0) t.2)
+          (let below = has_below size (get_or rows (r - 1) 0) by.0 (low (r - 1) (omega arith)) (sound (r - 1) by.0 by.1.0) in
+          let t = tried by.0 (bit_at_ones w by.0 (omega arith)) by.1.1 in
+          subst (λ (e : ℕ). Shut (get_or rows e 0) seats.untried) (one_holder (get_or seats.holders by.0 None) t.0 (r - 1) t.1 by.1.0) t.2)
     ]
 
     -- it and the holders of the tried numbers are more than their open numbers
     pub event_blocked : Short (open_in rows) size (events_in size (stands_in marked))
-    event_blocked = crowded (open_in rows) size (event + 1) (omega arith, omega arith) (stands_in marked) (λ c. not (stands_in rest c)) (λ c. holder-of (get_or holders (c - 1) None))
+    event_blocked = crowded (open_in rows) size (event + 1) (omega arith, omega arith) (stands_in marked) (λ c. not (stands_in seats.untried c)) (λ c. holder-of (get_or seats.holders (c - 1) None))
         (eq-eqb _ _ (subst (λ (k : ℕ). Has marked k) (omega arith) marks.root))
         (λ c in-range d.
         (let t = stuck c in-range d in (
@@ -113,6 +126,6 @@ module _ (rows : List ℕ) (holders : List (Option ℕ)) (size : ℕ) (low : (r 
         (let t = stuck c cs cd in
         let u = stuck d ds dd in
         let same : t.0 ≡ u.0 = omega (arith, t.4, u.4) in
-        let z = placed.once t.0 (c - 1) (d - 1) t.1 (subst (λ (x : ℕ). Holds holders x (d - 1)) (sym same) u.1) in
+        let z = seats.placed.once t.0 (c - 1) (d - 1) t.1 (subst (λ (x : ℕ). Holds seats.holders x (d - 1)) (sym same) u.1) in
         omega arith))
         (λ r c rs cs i o. not_from_false _ (ne_eqb _ _ (closed r rs (eqb-true _ _ i) (c - 1) (eqb-true _ _ o))))

@@ -7,14 +7,15 @@ use Rattle.tables.specs.Table.{Within}
 use Rattle.tables.specs.declared.grade.Grade.{Grade}
 use Rattle.tables.specs.declared.grade.Grade.TheVariants.{Closed, Open}
 use Rattle.judge.specs.declared.settling.Seats.{Seats}
-use Rattle.judge.specs.declared.settling.Trail.{Trail}
+use Rattle.judge.specs.declared.settling.Reach.{Reach}
+use Rattle.judge.specs.declared.settling.Reach.TheVariants.{Unseen, Reached, Scanned}
 use Rattle.judge.specs.Prices.{Bounded}
 use Rattle.judge.specs.Seating.{put, Seating, SeatsOneMore}
 use Rattle.judge.specs.Search.{relax, better, reached, lowered, repriced}
 use Rattle.judge.specs.Tree.{Nearest, Going}
 use Rattle.judge.specs.Turning.{Turning}
 use Rattle.judge.specs.Rows.{Agree, listed, or_none, listed_or_none, path_by, gone_over, found_by, NoneLeft, less_end}
-use Rattle.judge.specs.Settling.{Solvable, Named, Seated, Found, seat_in, holder_in, scanned_in, finder_in, path_in, take_number, turned, WayBack}
+use Rattle.judge.specs.Settling.{Solvable, Named, Seated, Relaxed, Searching, Found, seat_in, holder_in, is_scanned, finder_of, scanned_in, finder_in, path_in, take_number, turned, WayBack}
 use Rattle.judge.proofs.Puts.{put_here, put_there, none_some}
 use Rattle.judge.proofs.Violators.{violators}
 use Rattle.judge.proofs.Marking.{marks_of, marks_are}
@@ -23,12 +24,6 @@ use Rattle.judge.proofs.Same.{seating_same, going_same, turning_same}
 use Rattle.judge.proofs.Goings.{begins, fewer_done, goes_on, stuck, ends}
 use Rattle.judge.proofs.Turnings.{turns, ends_seated, turning_numbers}
 use Rattle.judge.proofs.Rows.{listed_suc, listed_here, listed_there}
-
--- one place of a list set
-pub listed_set : {X : Type 0} (s : ℕ) (xs : List X) (d y : X) (j : ℕ) → j < length xs → Agree s (listed (set xs j y) d) (put (listed xs d) (suc j) y)
-listed_set s xs d y j long c w =
-    ⊎_elim (λ (z : c ≡ suc j). ap (listed (set xs j y) d) z ∙ listed_here xs d y j long ∙ sym (ap (put (listed xs d) (suc j) y) z ∙ put_here (listed xs d) (suc j) y))
-    (λ (z : c ≡ suc j → ⊥). listed_there xs d y j c w.0 z ∙ sym (put_there (listed xs d) (suc j) y c z)) (cases_eq c (suc j))
 
 -- number n set for i
 pub listed_number_set : (s : ℕ) (xs : List (Option ℕ)) (i n : ℕ) → Within s i → s ≤ length xs → Agree s (listed_or_none (set xs (i - 1) (Some n))) (put (listed_or_none xs) i n)
@@ -62,9 +57,21 @@ listed_replicate zero x j = refl
 listed_replicate (suc n) x zero = refl
 listed_replicate (suc n) x (suc j) = listed_replicate n x j
 
--- a trail before any search
-abbrev pub fresh_trail : Trail
-fresh_trail = record { finders = replicate 32 None; scanned = replicate 32 false }
+-- what is known of the numbers before any search
+abbrev pub unseen : List Reach
+unseen = replicate 32 Unseen
+
+-- the number at place j set to x, which is scanned and has the same finder
+module _ (s : ℕ) (reached : List Reach) (j : ℕ) (x : Reach) (long : j < length reached) where
+  pub scanned_set : is_scanned x ≡ true → Agree s (scanned_in (set reached j x)) (put (scanned_in reached) (suc j) true)
+  scanned_set e c w =
+      ⊎_elim (λ (z : c ≡ suc j). ap (scanned_in (set reached j x)) z ∙ ap is_scanned (listed_here reached Unseen x j long) ∙ e ∙ sym (ap (put (scanned_in reached) (suc j) true) z ∙ put_here (scanned_in reached) (suc j) true))
+      (λ (z : c ≡ suc j → ⊥). ap is_scanned (listed_there reached Unseen x j c w.0 z) ∙ sym (put_there (scanned_in reached) (suc j) true c z)) (cases_eq c (suc j))
+
+  pub finder_kept : finder_of x ≡ finder_of (listed reached Unseen (suc j)) → (c : ℕ) → Within s c → finder_of (listed (set reached j x) Unseen c) ≡ finder_of (listed reached Unseen c)
+  finder_kept e c w =
+      ⊎_elim (λ (z : c ≡ suc j). ap (λ (n : ℕ). finder_of (listed (set reached j x) Unseen n)) z ∙ ap finder_of (listed_here reached Unseen x j long) ∙ e ∙ ap (λ (n : ℕ). finder_of (listed reached Unseen n)) (sym z))
+      (λ (z : c ≡ suc j → ⊥). ap finder_of (listed_there reached Unseen x j c w.0 z)) (cases_eq c (suc j))
 
 -- a path that counts has the cost that stands in its place
 pub path_cost : {C : Type 0} (o : Option ℕ) (x p : C) → path_by o x ≡ Some p → x ≡ p
@@ -125,6 +132,18 @@ module _ {C : Type 0} (k : Kind C) (laws : Laws k) (g : ℕ → ℕ → Grade C)
             ap (λ b. cond b (k.minus (costs c) p) (v c)) e ∙ ap (λ x. k.minus x p) (cost-is c cw o.2 o.3)
             ∙ sym (ap (λ b. lowered k b (path c) p (v c)) e ∙ ap (λ x. lowered k true x p (v c)) o.3)
         price c cw false e = ap (λ b. cond b (k.minus (costs c) p) (v c)) e ∙ sym (ap (λ b. lowered k b (path c) p (v c)) e)
+
+-- the same over lists: the number at place j, which event f found, is scanned
+module _ {C : Type 0} (k : Kind C) (laws : Laws k) (g : ℕ → ℕ → Grade C) (s : ℕ) (bounded : Bounded k g s) (t r : ℕ) (seats : Seats) (v : ℕ → C) (reached : List Reach) (paths : List C) (go : Searching k g s t r seats v reached paths) (j i f : ℕ) (lt : j < s) (long : j < length reached) where
+  pub scans_on : s ≤ 64 → Within s i → holder_in seats (suc j) ≡ i → (p : C) → Nearest k s v (scanned_in reached) (path_in k reached paths) (suc j) p → (y : C) → g i (suc j) ≡ Open y → (l : C) → l ≡ k.minus p y
+      → get_or reached j Unseen ≡ Reached f → (reached₂ : List Reach) (paths₂ : List C) → Relaxed k g s i l (set reached j (Scanned f)) paths reached₂ paths₂ → Searching k g s (suc t) r seats v reached₂ paths₂
+  scans_on size iw held p near y y-is l l-is f-is reached₂ paths₂ after =
+      let kept = finder_kept s reached j (Scanned f) long (sym (ap finder_of (listed_suc reached Unseen j ∙ f-is))) in
+      let done₁ = scanned_in (set reached j (Scanned f)) in
+      scans k laws g s bounded t r (seat_in seats) (holder_in seats) v (scanned_in reached) (path_in k reached paths) (finder_in reached) go size (suc j) i (omega arith) held iw.0 p near y y-is l l-is
+      done₁ (scanned_in reached₂) (path_in k reached₂ paths₂) (finder_in reached₂) (scanned_set s reached j (Scanned f) long refl) (λ c w. after.scanned c w.0)
+      (λ c w. after.path c w ∙ ap (λ o. cond (done₁ c) (path_by o (listed paths k.zero c)) (relax k (path_by o (listed paths k.zero c)) (g i c) l)) (kept c w))
+      (λ c w. after.finder c w ∙ ap (λ o. cond (done₁ c) (or_none o) (cond (better k (path_by o (listed paths k.zero c)) (g i c) l) i (or_none o))) (kept c w))
 
 -- the way turned over
 module _ {C : Type 0} (k : Kind C) (g : ℕ → ℕ → Grade C) (s r : ℕ) (seat₀ : ℕ → ℕ) (w : ℕ → C) (by : ℕ → ℕ) where
@@ -190,14 +209,14 @@ module _ {C : Type 0} (k : Kind C) (g : ℕ → ℕ → Grade C) (s r : ℕ) (se
   turns_over (suc f) b seats j lt ln lh named x = one_turn f (turns_over f) b seats j lt ln lh named x
 
 -- a search found a free number, and the prices were set anew: the way to it can be turned over, and then all is in order
-pub augments : {C : Type 0} (k : Kind C) (laws : Laws k) (g : ℕ → ℕ → Grade C) (s r : ℕ) (bounded : Bounded k g s) → s ≤ 64 → (seats : Seats) (v : ℕ → C) (trail : Trail) (paths : List C) (j : ℕ) → Found k g s r seats v trail paths j → Seated k g s seats v → (e : C) → e ≡ get_or paths j k.zero → (w : ℕ → C) → Agree s w (less_end k (scanned_in trail) (listed paths k.zero) e v) → WayBack s s (finder_in trail) r seats (suc j) × OneMore k g s r (seat_in seats) w (finder_in trail) (turned s (finder_in trail) r seats (suc j))
-augments {C} k laws g s r bounded size seats v trail paths j found seated e e-is w new =
-    turns_over k g s r (seat_in seats) w (finder_in trail) s found.scans seats (suc j) (fewer_done k laws g s bounded found.scans r (seat_in seats) (holder_in seats) v (scanned_in trail) (path_in k trail paths) (finder_in trail) found.searching) seated.long_numbers seated.long_holders seated.named
-    (sinks k laws g s bounded found.scans r (seat_in seats) (holder_in seats) v (scanned_in trail) (path_in k trail paths) (finder_in trail) found.searching size (suc j) (omega (arith, found.below)) found.free found.cost found.nearest
-    (listed paths k.zero) w cost-is (λ c cw. new c cw ∙ ap (λ z. less_end k (scanned_in trail) (listed paths k.zero) z v c) end_is))
+pub augments : {C : Type 0} (k : Kind C) (laws : Laws k) (g : ℕ → ℕ → Grade C) (s r : ℕ) (bounded : Bounded k g s) → s ≤ 64 → (seats : Seats) (v : ℕ → C) (reached : List Reach) (paths : List C) (j : ℕ) → Found k g s r seats v reached paths j → Seated k g s seats v → (e : C) → e ≡ get_or paths j k.zero → (w : ℕ → C) → Agree s w (less_end k (scanned_in reached) (listed paths k.zero) e v) → WayBack s s (finder_in reached) r seats (suc j) × OneMore k g s r (seat_in seats) w (finder_in reached) (turned s (finder_in reached) r seats (suc j))
+augments {C} k laws g s r bounded size seats v reached paths j found seated e e-is w new =
+    turns_over k g s r (seat_in seats) w (finder_in reached) s found.scans seats (suc j) (fewer_done k laws g s bounded found.scans r (seat_in seats) (holder_in seats) v (scanned_in reached) (path_in k reached paths) (finder_in reached) found.searching) seated.long_numbers seated.long_holders seated.named
+    (sinks k laws g s bounded found.scans r (seat_in seats) (holder_in seats) v (scanned_in reached) (path_in k reached paths) (finder_in reached) found.searching size (suc j) (omega (arith, found.below)) found.free found.cost found.nearest
+    (listed paths k.zero) w cost-is (λ c cw. new c cw ∙ ap (λ z. less_end k (scanned_in reached) (listed paths k.zero) z v c) end_is))
   where
-    cost-is : (c : ℕ) → Within s c → (q : C) → path_in k trail paths c ≡ Some q → listed paths k.zero c ≡ q
-    cost-is c cw q m = path_cost (listed trail.finders None c) (listed paths k.zero c) q m
+    cost-is : (c : ℕ) → Within s c → (q : C) → path_in k reached paths c ≡ Some q → listed paths k.zero c ≡ q
+    cost-is c cw q m = path_cost (finder_of (listed reached Unseen c)) (listed paths k.zero c) q m
 
     end_is : e ≡ found.cost
     end_is = e-is ∙ sym (listed_suc paths k.zero j) ∙ cost-is (suc j) (omega (arith, found.below)) found.cost found.nearest.1

@@ -1,5 +1,5 @@
 -- Lists gone over place by place, and the nearest number found, as loops do it: one place more.
-use Rattle.std.proofs.Common.{◌≡◌, ℕ, suc, ◌+◌, ◌-◌, ◌<◌, ◌≤◌, Bool, true, false, cond, List, length, get_or, set, Some, None, Option, sym, refl, ap, ◌∙◌, subst, ⊎_elim, arith}
+use Rattle.std.proofs.Common.{◌≡◌, ℕ, suc, ◌+◌, ◌-◌, ◌<◌, ◌≤◌, Bool, true, false, cond, MatchOption, List, length, get_or, set, Some, None, Option, sym, refl, ap, ◌∙◌, subst, ⊎_elim, arith}
 use Rattle.std.proofs.lemmas.List.{get_or-set_same, get_or-set_other}
 use Rattle.std.proofs.lemmas.Bool.{cases_eq, false≢true}
 use Rattle.costs.specs.Kind.{Kind, Laws, AtMost}
@@ -7,8 +7,12 @@ use Rattle.tables.specs.Table.{Within}
 use Rattle.tables.specs.declared.grade.Grade.{Grade}
 use Rattle.tables.specs.declared.grade.Grade.TheVariants.{Closed, Open}
 use Rattle.judge.specs.Search.{relax, better}
-use Rattle.judge.specs.Rows.{listed, path_by, listed_path, shorter, gone_over, found_by, NoneLeft, Preferred}
+use Rattle.judge.specs.declared.settling.Reach.{Reach}
+use Rattle.judge.specs.declared.settling.Reach.TheVariants.{Unseen, Reached, Scanned}
+use Rattle.judge.specs.Rows.{listed, or_none, path_by, shorter, gone_over, found_by, NoneLeft, NearestPlace, Preferred}
+use Rattle.judge.specs.Settling.{is_scanned, finder_of, scanned_in, finder_in, path_in}
 use Rattle.costs.proofs.Sums.{at_most_itself}
+use Rattle.judge.proofs.Puts.{none_some}
 
 -- what a list says of the number at place j
 pub listed_suc : {X : Type 0} (xs : List X) (d : X) (j : ℕ) → listed xs d (suc j) ≡ get_or xs j d
@@ -55,14 +59,39 @@ shorter_some {C} k (Some q) (Open x) l p e = go (k.at_most q (k.plus l x)) refl 
     go true t m = let z : ◌≡◌ {A = ℕ} 0 1 = cc in absurd (omega arith)
     go false t m = (simp t (sym m), simp t)
 
--- one place of a path set, with the event that found it
-pub path_here : {C : Type 0} (k : Kind C) (finders : List (Option ℕ)) (paths : List C) (j i : ℕ) (p : C) → j < length finders → j < length paths → listed_path k (set finders j (Some i)) (set paths j p) (suc j) ≡ Some p
-path_here k finders paths j i p h l =
-    ap (λ o. path_by o (listed (set paths j p) k.zero (suc j))) (listed_here finders None (Some i) j h) ∙ ap (λ x. Some x) (listed_here paths k.zero p j l)
+-- what is known of a number, where it is not that it was scanned
+pub not_scanned : (x : Reach) → ((i : ℕ) → x ≡ Scanned i → ⊥) → is_scanned x ≡ false
+not_scanned Unseen f = refl
+not_scanned (Reached i) f = refl
+not_scanned (Scanned i) f = absurd (f i refl)
 
-pub path_there : {C : Type 0} (k : Kind C) (finders : List (Option ℕ)) (paths : List C) (j i : ℕ) (p : C) (c : ℕ) → 1 ≤ c → (c ≡ suc j → ⊥) → listed_path k (set finders j (Some i)) (set paths j p) c ≡ listed_path k finders paths c
-path_there k finders paths j i p c o n =
-    ap (λ x. path_by x (listed (set paths j p) k.zero c)) (listed_there finders None (Some i) j c o n) ∙ ap (path_by (listed finders None c)) (listed_there paths k.zero p j c o n)
+-- a number that is not reached, or scanned, is none to go on with
+pub not_reached : {C : Type 0} (x : Reach) (p q : C) → ((i : ℕ) → x ≡ Reached i → ⊥) → is_scanned x ≡ false → path_by (finder_of x) p ≡ Some q → ⊥
+not_reached Unseen p q f e m = none_some q m
+not_reached (Reached i) p q f e m = f i refl
+not_reached (Scanned i) p q f e m = false≢true (sym e)
+
+-- a number reached over event i: its path and its event are set, no other number changes, and what is scanned stays
+module _ (reached : List Reach) (j i : ℕ) where
+  pub path_here : {C : Type 0} (k : Kind C) (paths : List C) (p : C) → j < length reached → j < length paths → path_in k (set reached j (Reached i)) (set paths j p) (suc j) ≡ Some p
+  path_here k paths p h l =
+      ap (λ x. path_by (finder_of x) (listed (set paths j p) k.zero (suc j))) (listed_here reached Unseen (Reached i) j h) ∙ ap (λ x. Some x) (listed_here paths k.zero p j l)
+
+  pub path_there : {C : Type 0} (k : Kind C) (paths : List C) (p : C) (c : ℕ) → 1 ≤ c → (c ≡ suc j → ⊥) → path_in k (set reached j (Reached i)) (set paths j p) c ≡ path_in k reached paths c
+  path_there k paths p c o n =
+      ap (λ x. path_by (finder_of x) (listed (set paths j p) k.zero c)) (listed_there reached Unseen (Reached i) j c o n)
+      ∙ ap (path_by (finder_of (listed reached Unseen c))) (listed_there paths k.zero p j c o n)
+
+  pub finder_here : j < length reached → finder_in (set reached j (Reached i)) (suc j) ≡ i
+  finder_here h = ap (λ x. or_none (finder_of x)) (listed_here reached Unseen (Reached i) j h)
+
+  pub finder_there : (c : ℕ) → 1 ≤ c → (c ≡ suc j → ⊥) → finder_in (set reached j (Reached i)) c ≡ finder_in reached c
+  finder_there c o n = ap (λ x. or_none (finder_of x)) (listed_there reached Unseen (Reached i) j c o n)
+
+  pub scanned_still : j < length reached → scanned_in reached (suc j) ≡ false → (c : ℕ) → 1 ≤ c → scanned_in (set reached j (Reached i)) c ≡ scanned_in reached c
+  scanned_still h e c o =
+      ⊎_elim (λ (q : c ≡ suc j). ap (scanned_in (set reached j (Reached i))) q ∙ ap is_scanned (listed_here reached Unseen (Reached i) j h) ∙ sym e ∙ ap (scanned_in reached) (sym q))
+      (λ (q : c ≡ suc j → ⊥). ap is_scanned (listed_there reached Unseen (Reached i) j c o q)) (cases_eq c (suc j))
 
 -- a row gone over up to place j: one place more
 module _ {C : Type 0} (k : Kind C) (g : ℕ → ℕ → Grade C) (i : ℕ) (l : C) (done : ℕ → Bool) (old : ℕ → Option C) (old-by : ℕ → ℕ) (j : ℕ) (path : ℕ → Option C) (by : ℕ → ℕ)
@@ -112,6 +141,13 @@ module _ {C : Type 0} (k : Kind C) (laws : Laws k) (done : ℕ → Bool) (path :
   Near n (Some b) =
       (b.0 < n) × (done (suc b.0) ≡ false) × ((p : C) × (path (suc b.0) ≡ Some p) × (b.1 ≡ k.minus p (v (suc b.0))))
       × ((d : ℕ) → Within n d → done d ≡ false → (q : C) → path d ≡ Some q → AtMost k b.1 (k.minus q (v d)))
+
+  -- the place of the best of all numbers is the nearest place
+  pub near_place : (n s : ℕ) (o : Option (ℕ × C)) (j : Option ℕ) → n ≡ s → MatchOption o (j ≡ None) (λ b. j ≡ Some b.0) → Near n o → NearestPlace k s v done path j
+  near_place n s None j end e f = subst (NearestPlace k s v done path) (sym e) (subst (λ (m : ℕ). NoneLeft m done path) end f)
+  near_place n s (Some b) j end e f =
+      subst (NearestPlace k s v done path) (sym e)
+      (omega (arith, f.0), (f.2.0, (f.1, f.2.1, λ d w a q r. subst (λ y. AtMost k y (k.minus q (v d))) f.2.2 (f.3 d (w.0, omega (arith, w.1)) a q r))))
 
   -- the number at place n does not count
   pub near_skip : (n : ℕ) (o : Option (ℕ × C)) → (done (suc n) ≡ false → (q : C) → path (suc n) ≡ Some q → ⊥) → Near n o → Near (n + 1) o

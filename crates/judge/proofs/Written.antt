@@ -1,6 +1,6 @@
 -- A loop that writes one place after another.
-use Rattle.std.proofs.Common.{◌≡◌, ℕ, ◌+◌, ◌-◌, ◌<◌, List, length, get_or, set, sym, ap, ◌∙◌, subst, inl, inr, arith}
-use Rattle.std.proofs.lemmas.List.{get_or-set_same, get_or-set_other}
+use Rattle.std.proofs.Common.{◌≡◌, ℕ, ◌+◌, ◌-◌, ◌<◌, ◌≤◌, List, ◌++◌, length, get_or, set, drop, sym, ap, ◌∙◌, subst, inl, inr, arith}
+use Rattle.std.proofs.lemmas.List.{get_or-set_same, get_or-set_other, get_or_append_left}
 use Rattle.std.proofs.lemmas.Bool.{cases_eq}
 use Rattle.tables.specs.Table.{Within}
 use Rattle.judge.specs.Rows.{listed}
@@ -22,3 +22,7 @@ written_more P xs i d y h before here =
     within_more (λ r. P r (listed (set xs i y) d r)) i
     (λ r w. subst (P r) (sym (get_or-set_other xs i (r - 1) y d (λ (q : r - 1 ≡ i). omega (arith, w)))) (before r w))
     (subst (P (i + 1)) (sym (listed_next (set xs i y) d i ∙ get_or-set_same xs i y d h)) here)
+
+-- what was written to the first s places, at the start of a longer list
+pub written_front : {X : Type 0} (P : ℕ → X → Type 0) (s n : ℕ) (items old : List X) (d : X) → length items ≡ s → s ≤ n → ((r : ℕ) → Within n r → P r (listed items d r)) → (r : ℕ) → Within s r → P r (listed (items ++ drop s old) d r)
+written_front P s n items old d long all f r w = subst (P r) (sym (get_or_append_left items (drop s old) d (r - 1) (omega (arith, w)))) (f r (omega (arith, w)))

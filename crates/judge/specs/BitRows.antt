@@ -1,12 +1,13 @@
 -- Bit rows: sets of events or numbers, one bit each.
-use Rattle.std.specs.Prelude.{◌≡◌, ℕ, ◌-◌, ◌/◌, ◌%◌, ◌^◌, ◌≤◌, Bool, List, ◌==◌, count_ones, slice_index}
+use Rattle.std.specs.Prelude.{◌≡◌, ℕ, ◌-◌, ◌≤◌, Bool, List, ◌==◌, count_ones, slice_index}
+use Rattle.std.specs.Int.{bit_at}
 use Rattle.tables.specs.Table.{Within}
 use Rattle.tables.specs.declared.grade.Grade.{Grade}
 use Rattle.judge.specs.Allowed.{opens}
 
 -- the row has the place k (places count from 0)
 abbrev pub Has : ℕ → ℕ → Type 0
-Has row k = row / 2 ^ k % 2 ≡ 1
+Has row k = bit_at row k ≡ 1
 
 -- each place of the one is a place of the other
 abbrev pub Sub : ℕ → ℕ → Type 0
@@ -23,7 +24,7 @@ Shut row rest = (k : ℕ) → Has row k → Has rest k → ⊥
 
 -- the row has the event or number n (these count from 1)
 abbrev pub stands_in : ℕ → ℕ → Bool
-stands_in row n = row / 2 ^ (n - 1) % 2 == 1
+stands_in row n = bit_at row (n - 1) == 1
 
 -- number c is open to event r
 abbrev pub open_in : List ℕ → ℕ → ℕ → Bool

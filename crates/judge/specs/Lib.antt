@@ -16,6 +16,7 @@ pub mod Turning
 pub mod Rows
 pub mod BitRows
 pub mod Matching
+pub mod Moves
 pub mod Marking
 pub mod Grades
 pub mod Settling

@@ -37,10 +37,6 @@ abbrev pub path_by : {C : Type 0} → Option ℕ → C → Option C
 path_by None p = None
 path_by (Some i) p = Some p
 
--- the path to number c
-abbrev pub listed_path : {C : Type 0} → Kind C → List (Option ℕ) → List C → ℕ → Option C
-listed_path k finders paths c = path_by (slice_index_or finders (c - 1) None) (slice_index_or paths (c - 1) k.zero)
-
 -- the path over an event with lead l, where that is less than the one known
 abbrev pub shorter : {C : Type 0} → Kind C → Option C → Grade C → C → Option C
 shorter k known Closed l = None

@@ -3,15 +3,21 @@ use Rattle.std.specs.Prelude.{◌≡◌, ℕ, zero, suc, ◌-◌, ◌<◌, ◌�
 use Rattle.costs.specs.Kind.{Kind}
 use Rattle.tables.specs.Table.{Within}
 use Rattle.tables.specs.declared.grade.Grade.{Grade}
+use Rattle.judge.specs.declared.grading.Pairs.{Pairs}
 use Rattle.judge.specs.declared.settling.Seats.{Seats}
-use Rattle.judge.specs.declared.settling.Trail.{Trail}
+use Rattle.judge.specs.declared.settling.Reach.{Reach}
+use Rattle.judge.specs.declared.settling.Reach.TheVariants.{Unseen, Reached, Scanned}
 use Rattle.judge.specs.Renumbering.{Renumbering}
-use Rattle.judge.specs.Grades.{Grid, grade_in}
+use Rattle.judge.specs.Grades.{grade_in}
 use Rattle.judge.specs.Allowed.{allowed}
 use Rattle.judge.specs.Prices.{Bounded}
 use Rattle.judge.specs.Seating.{Seating}
 use Rattle.judge.specs.Tree.{Nearest, Going}
-use Rattle.judge.specs.Rows.{Agree, listed, listed_cost, listed_or_none, listed_path, gone_over, found_by}
+use Rattle.judge.specs.Rows.{Agree, listed, listed_cost, or_none, listed_or_none, path_by, gone_over, found_by}
+
+-- the grade of event r with number c
+abbrev pub graded : {C : Type 0} → Pairs C → ℕ → ℕ → Grade C
+graded pairs = grade_in pairs.grades.now pairs.size
 
 -- costs are bounded, and some renumbering is allowed
 pub record Solvable {C : Type 0} (k : Kind C) (g : ℕ → ℕ → Grade C) (s : ℕ) : Type 0 where
@@ -40,45 +46,55 @@ pub record Seated {C : Type 0} (k : Kind C) (g : ℕ → ℕ → Grade C) (s : �
   pub long_numbers : s ≤ length seats.numbers
   pub long_holders : s ≤ length seats.holders
 
+-- whether a number is scanned
+abbrev pub is_scanned : Reach → Bool
+is_scanned Unseen = false
+is_scanned (Reached i) = false
+is_scanned (Scanned i) = true
+
+-- the event that found the path to a number
+abbrev pub finder_of : Reach → Option ℕ
+finder_of Unseen = None
+finder_of (Reached i) = Some i
+finder_of (Scanned i) = Some i
+
 -- whether each number is scanned
-abbrev pub scanned_in : Trail → ℕ → Bool
-scanned_in trail = listed trail.scanned false
+abbrev pub scanned_in : List Reach → ℕ → Bool
+scanned_in known c = is_scanned (listed known Unseen c)
 
 -- the event that found the path to each number, 0 for none
-abbrev pub finder_in : Trail → ℕ → ℕ
-finder_in trail = listed_or_none trail.finders
+abbrev pub finder_in : List Reach → ℕ → ℕ
+finder_in known c = or_none (finder_of (listed known Unseen c))
 
 -- the path to each number
-abbrev pub path_in : {C : Type 0} → Kind C → Trail → List C → ℕ → Option C
-path_in k trail paths = listed_path k trail.finders paths
+abbrev pub path_in : {C : Type 0} → Kind C → List Reach → List C → ℕ → Option C
+path_in k known paths c = path_by (finder_of (listed known Unseen c)) (listed_cost k paths c)
 
--- the row of event i with lead l was gone over: what the trail and the paths were, and what they are
-pub record Relaxed {C : Type 0} (k : Kind C) (g : ℕ → ℕ → Grade C) (s i : ℕ) (l : C) (trail : Trail) (paths : List C) (trail₂ : Trail) (paths₂ : List C) : Type 0 where
-  pub scanned : trail₂.scanned ≡ trail.scanned
-  pub path : Agree s (path_in k trail₂ paths₂) (gone_over k g i l (scanned_in trail) (path_in k trail paths))
-  pub finder : Agree s (finder_in trail₂) (found_by k g i l (scanned_in trail) (path_in k trail paths) (finder_in trail))
+-- the row of event i with lead l was gone over: what was known of the numbers and the paths, and what is
+pub record Relaxed {C : Type 0} (k : Kind C) (g : ℕ → ℕ → Grade C) (s i : ℕ) (l : C) (known : List Reach) (paths : List C) (known₂ : List Reach) (paths₂ : List C) : Type 0 where
+  pub scanned : (c : ℕ) → 1 ≤ c → scanned_in known₂ c ≡ scanned_in known c
+  pub path : Agree s (path_in k known₂ paths₂) (gone_over k g i l (scanned_in known) (path_in k known paths))
+  pub finder : Agree s (finder_in known₂) (found_by k g i l (scanned_in known) (path_in k known paths) (finder_in known))
 
 -- event r has no number yet, and can be given one
-pub record Ready {C : Type 0} (k : Kind C) (grades : List (Grade C)) (s r : ℕ) (seats : Seats) (prices paths : List C) : Type 0 where
-  pub grid : Grid grades s
-  pub solvable : Solvable k (grade_in grades s) s
-  pub event : Within s r
+pub record Ready {C : Type 0} (k : Kind C) (pairs : Pairs C) (r : ℕ) (seats : Seats) (prices : List C) : Type 0 where
+  pub solvable : Solvable k (graded pairs) pairs.size
+  pub event : Within pairs.size r
   pub unseated : seat_in seats r ≡ 0
-  pub seated : Seated k (grade_in grades s) s seats (listed_cost k prices)
-  pub prices_long : s ≤ length prices
-  pub paths_long : s ≤ length paths
+  pub seated : Seated k (graded pairs) pairs.size seats (listed_cost k prices)
+  pub prices_long : pairs.size ≤ length prices
 
 -- the search for event r over these seats and prices goes on, with t numbers scanned
-abbrev pub Searching : {C : Type 0} → Kind C → (ℕ → ℕ → Grade C) → ℕ → ℕ → ℕ → Seats → (ℕ → C) → Trail → List C → Type 0
-Searching k g s t r seats v trail paths = Going k g s t r (seat_in seats) (holder_in seats) v (scanned_in trail) (path_in k trail paths) (finder_in trail)
+abbrev pub Searching : {C : Type 0} → Kind C → (ℕ → ℕ → Grade C) → ℕ → ℕ → ℕ → Seats → (ℕ → C) → List Reach → List C → Type 0
+Searching k g s t r seats v known paths = Going k g s t r (seat_in seats) (holder_in seats) v (scanned_in known) (path_in k known paths) (finder_in known)
 
 -- the search for event r found the free number at place j, nearest of all
-pub record Found {C : Type 0} (k : Kind C) (g : ℕ → ℕ → Grade C) (s r : ℕ) (seats : Seats) (v : ℕ → C) (trail : Trail) (paths : List C) (j : ℕ) : Type 0 where
+pub record Found {C : Type 0} (k : Kind C) (g : ℕ → ℕ → Grade C) (s r : ℕ) (seats : Seats) (v : ℕ → C) (known : List Reach) (paths : List C) (j : ℕ) : Type 0 where
   pub scans : ℕ
-  pub searching : Searching k g s scans r seats v trail paths
+  pub searching : Searching k g s scans r seats v known paths
   pub below : j < s
   pub cost : C
-  pub nearest : Nearest k s v (scanned_in trail) (path_in k trail paths) (suc j) cost
+  pub nearest : Nearest k s v (scanned_in known) (path_in k known paths) (suc j) cost
   pub free : holder_in seats (suc j) ≡ 0
 
 -- event i takes number j

@@ -4,18 +4,20 @@ ghost use Rattle.std.specs.Prelude.{◌≡◌, ◌*◌, ◌≤◌, length, take,
 ghost use Rattle.tables.specs.Refusals.{told};
 ghost use Rattle.tables.specs.Table.{pair_at};
 ghost use Rattle.judge.specs.Allowed.{cost as cost_by};
-ghost use Rattle.judge.specs.Grades.{Grid, grade_in};
+ghost use Rattle.judge.specs.Grades.{Grid};
 ghost use Rattle.judge.specs.Judging.{lists, Room, verdict_told, has_room, judge_answer, price_at, Left, Exact};
 ghost use Rattle.judge.specs.Least.{judged};
 ghost use Rattle.judge.specs.Prices.{Certified};
-ghost use Rattle.judge.specs.Settling.{Solvable};
+ghost use Rattle.judge.specs.Settling.{graded, Solvable};
+ghost use Rattle.judge.specs.Sheets.{sheet_lists, lengths};
 ghost use Rattle.judge.specs.Theory.{Theory};
 
-use crate::grading::grade_pairs;
+use crate::grading::Pairs;
 use crate::marks::write_marks;
 use crate::matching::blocked_events;
 use crate::reporting::{renumbering_cost, write_event_prices, write_numbers};
 use crate::settling::settle;
+use crate::sheet::{Sheet, filled};
 use crate::verdict::Verdict;
 use costs::Cost;
 use std::alloc::{AllocError, Global};
@@ -39,10 +41,7 @@ impl<C: Cost> Judge<C> {
         ensures memory { IfOk result (λ j. vec_len j.grades ≡ 1024) }
         ensures theory { Theory C }
     {
-        let mut grades = Vec::new(heap);
-        for _ in 0..GRADES {
-            grades.push(Grade::Closed)?;
-        }
+        let grades = filled(heap, Grade::Closed, GRADES)?;
         Ok(Judge { grades })
     }
 
@@ -79,7 +78,6 @@ impl<C: Cost> Judge<C> {
         let grades = self.grades.as_mut_slice();
         let verdict = settle_window(
             table,
-            size,
             bound,
             grades,
             numbers,
@@ -89,6 +87,29 @@ impl<C: Cost> Judge<C> {
             work,
         );
         Ok(verdict)
+    }
+
+    // The same with five lists that are owned. That they keep their lengths is a fact of the call, which their type cannot say.
+    pub fn judge_sheet<T: TraceTable<Value = C>>(
+        &mut self,
+        table: &T,
+        bound: &C,
+        sheet: &mut Sheet<C>,
+    ) -> Result<Verdict<C>, Refusal>
+        ensures answer { told verdict_told result ≡ judge_answer C.Cost.kind (T.TraceTable.means table.now) bound.now (sheet_lists sheet.old) }
+        ensures left { Left C.Cost.kind (T.TraceTable.means table.now) (sheet_lists sheet.old) result (sheet_lists sheet.new) }
+        ensures exact { IfOk result (λ v. Exact C.Cost.kind (T.TraceTable.means table.now) bound.now v) }
+        ensures lengths { lengths (sheet_lists sheet.new) ≡ lengths (sheet_lists sheet.old) }
+    {
+        self.judge(
+            table,
+            bound,
+            &mut sheet.numbers,
+            &mut sheet.event_prices,
+            &mut sheet.number_prices,
+            &mut sheet.marks,
+            &mut sheet.work,
+        )
     }
 }
 
@@ -111,9 +132,9 @@ pub fn is_roomy(
 }
 
 // The verdict on a full window, with lists that are long enough.
+// The lists stay parameters: a struct of them makes no clause shorter, and the check has no rule for reading one of its lists while another is written.
 fn settle_window<C: Cost, T: TraceTable<Value = C>>(
     table: &T,
-    size: usize,
     bound: &C,
     grades: &mut [Grade<C>],
     numbers: &mut [u32],
@@ -122,19 +143,19 @@ fn settle_window<C: Cost, T: TraceTable<Value = C>>(
     marks: &mut [u32],
     work: &mut [C],
 ) -> Verdict<C>
-    requires size { size ≡ (T.TraceTable.means table.now).size }
-    requires grid { Grid grades.old size }
-    requires room { Room size (lists numbers.old event_prices.old number_prices.old marks.old work.old) }
+    requires grid { Grid grades.old (T.TraceTable.means table.now).size }
+    requires room { Room (T.TraceTable.means table.now).size (lists numbers.old event_prices.old number_prices.old marks.old work.old) }
     ensures verdict { result ≡ judged C.Cost.kind (pair_at (T.TraceTable.means table.now)) (T.TraceTable.means table.now).size bound.now }
     ensures left { Left C.Cost.kind (T.TraceTable.means table.now) (lists numbers.old event_prices.old number_prices.old marks.old work.old) (Ok result) (lists numbers.new event_prices.new number_prices.new marks.new work.new) }
     ensures exact { Exact C.Cost.kind (T.TraceTable.means table.now) bound.now result }
 {
-    let rows = grade_pairs(table, size, grades);
-    if let Some(set) = blocked_events(&rows, size as u32) {
+    let pairs = Pairs::read(table, grades);
+    let size = pairs.size();
+    if let Some(set) = blocked_events(&pairs.open_rows(), size as u32) {
         write_marks(set, size, marks);
         return Verdict::None;
     }
-    let cost = settle_pairs(grades, size, numbers, event_prices, number_prices, work);
+    let cost = settle_pairs(&pairs, numbers, event_prices, number_prices, work);
     if cost.at_most(bound) {
         Verdict::Within(cost)
     } else {
@@ -144,24 +165,22 @@ fn settle_window<C: Cost, T: TraceTable<Value = C>>(
 
 // Writes a least renumbering and its prices, and answers its cost.
 fn settle_pairs<C: Cost>(
-    grades: &[Grade<C>],
-    size: usize,
+    pairs: &Pairs<C>,
     numbers: &mut [u32],
     event_prices: &mut [C],
     number_prices: &mut [C],
     work: &mut [C],
 ) -> C
-    requires grid { Grid grades.now size }
-    requires solvable { Solvable C.Cost.kind (grade_in grades.now size) size }
-    requires room { (size ≤ length numbers.old) × (size ≤ length event_prices.old) × (size ≤ length number_prices.old) × (size ≤ length work.old) }
-    ensures certified { Certified C.Cost.kind (grade_in grades.now size) size (take size numbers.new) (price_at C.Cost.kind event_prices.new) (price_at C.Cost.kind number_prices.new) }
-    ensures cost { result ≡ cost_by C.Cost.kind (grade_in grades.now size) (take size numbers.new) }
-    ensures beyond { (drop size numbers.new ≡ drop size numbers.old) × (drop size event_prices.new ≡ drop size event_prices.old) × (drop size number_prices.new ≡ drop size number_prices.old) }
+    requires solvable { Solvable C.Cost.kind (graded pairs.now) pairs.now.size }
+    requires room { (pairs.now.size ≤ length numbers.old) × (pairs.now.size ≤ length event_prices.old) × (pairs.now.size ≤ length number_prices.old) × (pairs.now.size ≤ length work.old) }
+    ensures certified { Certified C.Cost.kind (graded pairs.now) pairs.now.size (take pairs.now.size numbers.new) (price_at C.Cost.kind event_prices.new) (price_at C.Cost.kind number_prices.new) }
+    ensures cost { result ≡ cost_by C.Cost.kind (graded pairs.now) (take pairs.now.size numbers.new) }
+    ensures beyond { (drop pairs.now.size numbers.new ≡ drop pairs.now.size numbers.old) × (drop pairs.now.size event_prices.new ≡ drop pairs.now.size event_prices.old) × (drop pairs.now.size number_prices.new ≡ drop pairs.now.size number_prices.old) }
 {
-    let seats = settle(grades, size, number_prices, work);
-    write_numbers(&seats.numbers, size, numbers);
-    write_event_prices(grades, size, numbers, number_prices, event_prices);
-    let Grade::Open(cost) = renumbering_cost(grades, size, numbers) else {
+    let seats = settle(pairs, number_prices, work);
+    write_numbers(&seats.numbers, pairs.size(), numbers);
+    write_event_prices(pairs, numbers, number_prices, event_prices);
+    let Grade::Open(cost) = renumbering_cost(pairs, numbers) else {
         unreachable()
     };
     cost

@@ -1,153 +1,104 @@
 // Whether each event can have an open number of its own, over one bit row of open numbers for each event.
 // Events and numbers go by their places here, which count from 0: bit c of row r says that number c + 1 is open to event r + 1.
-ghost use Rattle.std.specs.Prelude.{◌≡◌, ℕ, ◌^◌, ◌<◌, ◌≤◌, true, false, None, MatchOption, ◌≢◌, count_ones, slice_index, slice_index_or};
+ghost use Rattle.std.specs.Prelude.{◌≡◌, ℕ, ◌^◌, ◌<◌, ◌≤◌, None, MatchOption, replicate, slice_index};
+ghost use Rattle.std.specs.Bool.{MatchBool};
 ghost use Rattle.tables.specs.Limits.{max_size};
-ghost use Rattle.judge.specs.BitRows.{Has, Narrowed, Shut, open_in, stands_in};
+ghost use Rattle.judge.specs.BitRows.{Has, Narrowed, open_in, stands_in};
 ghost use Rattle.judge.specs.Marks.{events_in, Short};
-ghost use Rattle.judge.specs.Matching.{Holds, Seated, Placed, Joined, Refused, Freed, Kept, TriedBy, Marks, Renumbered};
+ghost use Rattle.judge.specs.Matching.{Seated, Placed, Renumbered};
 
 use crate::WIDTH;
+use crate::place::{Place, Row, common_place, without};
 
-// A set of events or numbers, one bit each.
-pub(crate) type Row = u32;
-
-// The holder of each number, and the numbers that the search for one more event has yet to try.
+// The holder of each number, which is open to it, and the numbers that the search for one more event has yet to try.
+// Its lists are arrays, since judging allocates nothing. The rows are a copy: with a reference to them the borrow checker
+// has no rule for these methods (tried).
 #[derive(Drop)]
-struct Seats {
-    holders: [Option<u32>; WIDTH],
+struct Matching {
+    rows: [Row; WIDTH],
+    holders: [Option<Place>; WIDTH],
     untried: Row,
+    ghost placed: { Placed rows holders },
 }
 
-impl Seats {
-    // The event that holds the number.
-    fn holder(&self, number: u32) -> Option<u32>
-        requires { number < max_size }
-        ensures { result ≡ slice_index_or self.now.holders number None }
-    {
-        self.holders[number as usize]
-    }
+impl Matching {
+    ghost use Rattle.judge.specs.Moves.{Joined, Refused, Freed, Kept, Marks};
 
-    // The event that holds the number, where the number was tried.
-    fn tried_holder(&self, number: u32) -> Option<u32>
-        requires { number < max_size }
-        ensures { MatchOption result ((e : ℕ) → TriedBy self.now e number → ⊥) (λ e. TriedBy self.now e number) }
+    // Nobody holds a number yet.
+    fn new(rows: &[Row; WIDTH]) -> Matching
+        ensures rows { result.rows ≡ rows.now }
+        ensures holders { result.holders ≡ replicate max_size None }
     {
-        if (self.untried >> number) & 1 == 0 {
-            self.holder(number)
-        } else {
-            None
+        Matching {
+            rows: *rows,
+            holders: [None; WIDTH],
+            untried: 0,
         }
     }
-}
 
-// A number that both rows have.
-fn common_number(row: Row, untried: Row) -> Option<u32>
-    ensures { MatchOption result (Shut row untried) (λ c. (c < max_size) × Has row c × Has untried c) }
-{
-    let both = row & untried;
-    if both == 0 {
-        None
-    } else {
-        Some(both.trailing_zeros())
+    // May this event have a number? Then it gets one.
+    #[cycle(move_holder_seat_event)]
+    fn seat_event(&mut self, event: Place) -> bool
+        requires { Seated self.old.holders event → ⊥ }
+        ensures untried { Narrowed self.old.untried self.new.untried }
+        ensures outcome { MatchBool result (Joined self.old self.new event) (Refused self.old self.new event) }
+    {
+        while let Some(number) = common_place(self.rows[event.index()], self.untried) {
+            self.untried = without(self.untried, number);
+            if self.move_holder(number) {
+                self.holders[number.index()] = Some(event);
+                return true;
+            }
+        }
+        false
     }
-}
 
-// The row without one of its numbers.
-fn without(row: Row, number: u32) -> Row
-    requires { (number < max_size) × (Has row number) }
-    ensures fewer { count_ones result < count_ones row }
-    ensures inner { (c : ℕ) → Has result c → Has row c × (c ≢ number) }
-    ensures others { (c : ℕ) → Has row c → (c ≢ number) → Has result c }
-{
-    row & !(1 << number)
-}
-
-// May this event have a number? Then it gets one.
-#[cycle(move_holder_seat_event)]
-fn seat_event(rows: &[Row; WIDTH], seats: &mut Seats, event: u32) -> bool
-    requires event { event < max_size }
-    requires placed { Placed rows.now seats.old.holders }
-    requires standing { Seated seats.old.holders event → ⊥ }
-    ensures untried { Narrowed seats.old.untried seats.new.untried }
-    ensures outcome { elim result [ true ↦ Joined rows.now seats.old seats.new event | false ↦ Refused rows.now seats.old seats.new event ] }
-{
-    while let Some(number) = common_number(rows[event as usize], seats.untried) {
-        seats.untried = without(seats.untried, number);
-        if move_holder(rows, seats, number) {
-            seats.holders[number as usize] = Some(event);
+    // May this number's holder have another number? Then it moves there, and this one is free.
+    #[cycle(move_holder_seat_event)]
+    fn move_holder(&mut self, number: Place) -> bool
+        requires { Has self.old.untried number → ⊥ }
+        ensures untried { Narrowed self.old.untried self.new.untried }
+        ensures outcome { MatchBool result (Freed self.old self.new number) (Kept self.old self.new number) }
+    {
+        let Some(holder) = self.holders[number.index()] else {
+            return true;
+        };
+        self.holders[number.index()] = None;
+        if self.seat_event(holder) {
             return true;
         }
+        self.holders[number.index()] = Some(holder);
+        false
     }
-    false
-}
 
-// May this number's holder have another number? Then it moves there, and this one is free.
-#[cycle(move_holder_seat_event)]
-fn move_holder(rows: &[Row; WIDTH], seats: &mut Seats, number: u32) -> bool
-    requires number { number < max_size }
-    requires placed { Placed rows.now seats.old.holders }
-    requires tried { Has seats.old.untried number → ⊥ }
-    ensures untried { Narrowed seats.old.untried seats.new.untried }
-    ensures outcome { elim result [ true ↦ Freed rows.now seats.old seats.new number | false ↦ Kept rows.now seats.old seats.new number ] }
-{
-    let Some(holder) = seats.holder(number) else {
-        return true;
-    };
-    seats.holders[number as usize] = None;
-    if seat_event(rows, seats, holder) {
-        return true;
-    }
-    seats.holders[number as usize] = Some(holder);
-    false
-}
-
-// The event takes the number of its own place, where that is open to it and free.
-fn take_same(rows: &[Row; WIDTH], seats: &mut Seats, event: u32) -> bool
-    requires event { event < max_size }
-    requires placed { Placed rows.now seats.old.holders }
-    requires standing { Seated seats.old.holders event → ⊥ }
-    requires untried { Has seats.old.untried event }
-    ensures { elim result [ true ↦ Joined rows.now seats.old seats.new event | false ↦ seats.new ≡ seats.old ] }
-{
-    if (rows[event as usize] >> event) & 1 == 0 {
-        return false;
-    }
-    match seats.holder(event) {
-        Some(_) => false,
-        None => {
-            seats.holders[event as usize] = Some(event);
-            true
+    // One event more gets a number, if it may have one. Nobody has to move where the number of its own place is open to it and free.
+    fn seat_one_more(&mut self, event: Place) -> bool
+        requires standing { Seated self.old.holders event → ⊥ }
+        requires untried { Has self.old.untried event }
+        ensures { MatchBool result (Joined self.old self.new event) (Refused self.old self.new event) }
+    {
+        if event.is_in(self.rows[event.index()]) && self.holders[event.index()].is_none() {
+            self.holders[event.index()] = Some(event);
+            return true;
         }
+        self.seat_event(event)
     }
-}
 
-// One event more gets a number, if it may have one. Nobody has to move where the number of its own place is free.
-fn seat_one_more(rows: &[Row; WIDTH], seats: &mut Seats, event: u32) -> bool
-    requires event { event < max_size }
-    requires placed { Placed rows.now seats.old.holders }
-    requires standing { Seated seats.old.holders event → ⊥ }
-    requires untried { Has seats.old.untried event }
-    ensures { elim result [ true ↦ Joined rows.now seats.old seats.new event | false ↦ Refused rows.now seats.old seats.new event ] }
-{
-    if take_same(rows, seats, event) {
-        return true;
-    }
-    seat_event(rows, seats, event)
-}
-
-// The event and the holders of the tried numbers, as a bit row.
-fn marked_events(seats: &Seats, event: u32) -> Row
-    requires event { event < max_size }
-    requires held { (e c : ℕ) → Holds seats.now.holders e c → e < max_size }
-    ensures { Marks seats.now event max_size result }
-{
-    let mut marked = 1 << event;
-    for number in 0..WIDTH as u32 {
-        if let Some(holder) = seats.tried_holder(number) {
-            marked |= 1 << holder;
+    // The event and the holders of the tried numbers. Out of line, since it runs at most once.
+    #[inline(never)]
+    fn marked_events(&self, event: Place) -> Row
+        ensures { Marks self.now event max_size result }
+    {
+        let mut marked = event.bit();
+        for (number, holder) in self.holders.iter().enumerate() {
+            if let Some(holder) = holder {
+                if !Place::new(number as u32).is_in(self.untried) {
+                    marked |= holder.bit();
+                }
+            }
         }
+        marked
     }
-    marked
 }
 
 // The events that have too few open numbers among them, as a bit row (bit r - 1 for event r), or None where each event can have a number of its own.
@@ -156,14 +107,13 @@ pub(crate) fn blocked_events(rows: &[Row; WIDTH], size: u32) -> Option<Row>
     requires rows { (r : ℕ) → r < size → slice_index rows.now r < 2 ^ size }
     ensures { MatchOption result (Renumbered (open_in rows.now) size) (λ set. Short (open_in rows.now) size (events_in size (stands_in set))) }
 {
-    let mut seats = Seats {
-        holders: [None; WIDTH],
-        untried: 0,
-    };
+    let mut matching = Matching::new(rows);
+    // Events are counted here, and no list is indexed by them.
     for event in 0..size {
-        seats.untried = Row::MAX;
-        if !seat_one_more(rows, &mut seats, event) {
-            return Some(marked_events(&seats, event));
+        let event = Place::new(event);
+        matching.untried = Row::MAX;
+        if !matching.seat_one_more(event) {
+            return Some(matching.marked_events(event));
         }
     }
     None

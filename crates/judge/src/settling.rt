@@ -3,44 +3,48 @@ ghost use Rattle.std.specs.Prelude.{◌≡◌, ℕ, suc, ◌-◌, ◌<◌, ◌�
 ghost use Rattle.tables.specs.Table.{Within};
 ghost use Rattle.judge.specs.Seating.{SeatsOneMore};
 ghost use Rattle.judge.specs.Rows.{Agree, AgreePast, listed_cost, shorter, Preferred, NearestPlace, less_end};
-ghost use Rattle.judge.specs.Settling.{Solvable, Ready, Relaxed, Seated, Found, seat_in, scanned_in, finder_in, path_in, take_number, turned, WayBack};
-ghost use Rattle.judge.specs.Grades.{Grid, grade_in};
+ghost use Rattle.judge.specs.Settling.{graded, Solvable, Ready, Relaxed, Seated, Found, seat_in, finder_of, scanned_in, finder_in, path_in, take_number, turned, WayBack};
 
 use crate::WIDTH;
-use crate::grading::grade_of;
+use crate::grading::Pairs;
 use costs::Cost;
 use tables::grade::Grade;
 
-// Who has which number: the number of event r at place r - 1, and the event that has number c at place c - 1.
+// Who has which number: the event that has number c at place c - 1, and the number of event r at place r - 1. Each list is
+// asked by its own place, so they are two, and arrays, since judging allocates nothing.
 #[derive(Drop)]
 pub(crate) struct Seats {
-    pub(crate) numbers: [Option<u32>; WIDTH],
     holders: [Option<u32>; WIDTH],
+    pub(crate) numbers: [Option<u32>; WIDTH],
 }
 
-// What a search knows of each number: the event that found its path, if any, and whether it is scanned.
+// What a search knows of a number: nothing, the event that found the path to it, or that event after the number was scanned.
+#[derive(Clone, Copy)]
+enum Reach {
+    Unseen,
+    Reached(u32),
+    Scanned(u32),
+}
+
+// A search over all pairs: what it knows of each number, and the cost of the path to each number that it reached. These are
+// two lists: an array, since judging allocates nothing, and the work list that the caller lends.
 #[derive(Drop)]
-struct Trail {
-    finders: [Option<u32>; WIDTH],
-    scanned: [bool; WIDTH],
+struct Search<'a, C> {
+    pairs: Pairs<'a, C>,
+    known: [Reach; WIDTH],
+    paths: &'a mut [C],
+    ghost long: { pairs.size ≤ length paths.now },
 }
 
-// The cost at a place.
-fn cost_at<C: Cost>(costs: &[C], place: usize) -> C
-    requires { place < length costs.now }
-    ensures { result ≡ slice_index_or costs.now place C.Cost.kind.zero }
-{
-    costs[place]
-}
-
-// The cost of the path to the number at a place, where one is found.
-fn path_at<C: Cost>(trail: &Trail, paths: &[C], place: usize) -> Option<C>
-    requires { (place < 32) × (place < length paths.now) }
-    ensures { result ≡ path_in C.Cost.kind trail.now paths.now (suc place) }
-{
-    match trail.finders[place] {
-        None => None,
-        Some(_) => Some(paths[place]),
+impl Reach {
+    // The event that found the path to the number, if any did.
+    fn finder(self) -> Option<u32>
+        ensures { result ≡ finder_of self }
+    {
+        match self {
+            Reach::Unseen => None,
+            Reach::Reached(event) | Reach::Scanned(event) => Some(event),
+        }
     }
 }
 
@@ -64,32 +68,6 @@ fn shorter_path<C: Cost>(known: Option<C>, grade: Grade<C>, lead: C) -> Option<C
     }
 }
 
-// Goes over the row of an event with a lead: each number that is not scanned takes the path over the event where that is less.
-fn relax_row<C: Cost>(
-    grades: &[Grade<C>],
-    size: usize,
-    event: u32,
-    lead: C,
-    trail: &mut Trail,
-    paths: &mut [C],
-)
-    requires grid { Grid grades.now size }
-    requires event { Within size event }
-    requires paths { size ≤ length paths.old }
-    ensures { Relaxed C.Cost.kind (grade_in grades.now size) size event lead trail.old paths.old trail.new paths.new }
-{
-    for place in 0..size {
-        if !trail.scanned[place] {
-            let known = path_at(trail, paths, place);
-            let grade = grade_of(grades, size, event, place);
-            if let Some(path) = shorter_path(known, grade, lead) {
-                trail.finders[place] = Some(event);
-                paths[place] = path;
-            }
-        }
-    }
-}
-
 // Whether a key is to be preferred to that of the best so far: where both are the same, a free number is.
 fn is_nearer<C: Cost>(best: Option<(usize, C)>, key: C, free: bool) -> bool
     ensures { Preferred C.Cost.kind best key result }
@@ -100,47 +78,6 @@ fn is_nearer<C: Cost>(best: Option<(usize, C)>, key: C, free: bool) -> bool
             let under = key.at_most(&least);
             let over = least.at_most(&key);
             under & (free | !over)
-        }
-    }
-}
-
-// The place of the number to go on with: not scanned, and of the least key, which is its path less its price.
-fn nearest<C: Cost>(
-    size: usize,
-    seats: &Seats,
-    trail: &Trail,
-    paths: &[C],
-    prices: &[C],
-) -> Option<usize>
-    requires { (size ≤ 32) × ((size ≤ length paths.now) × (size ≤ length prices.now)) }
-    ensures { NearestPlace C.Cost.kind size (listed_cost C.Cost.kind prices.now) (scanned_in trail.now) (path_in C.Cost.kind trail.now paths.now) result }
-{
-    let mut best = None;
-    for place in 0..size {
-        if !trail.scanned[place] {
-            if let Some(path) = path_at(trail, paths, place) {
-                let key = path.minus(cost_at(prices, place));
-                if is_nearer(best, key, seats.holders[place].is_none()) {
-                    best = Some((place, key));
-                }
-            }
-        }
-    }
-    match best {
-        None => None,
-        Some((place, _)) => Some(place),
-    }
-}
-
-// Sets the price of each scanned number to its path less the path to the sink.
-fn reprice<C: Cost>(size: usize, trail: &Trail, paths: &[C], end: C, prices: &mut [C])
-    requires { (size ≤ 32) × ((size ≤ length paths.now) × (size ≤ length prices.old)) }
-    ensures is { Agree size (listed_cost C.Cost.kind prices.new) (less_end C.Cost.kind (scanned_in trail.now) (listed_cost C.Cost.kind paths.now) end (listed_cost C.Cost.kind prices.old)) }
-    ensures beyond { AgreePast size (listed_cost C.Cost.kind prices.new) (listed_cost C.Cost.kind prices.old) }
-{
-    for place in 0..size {
-        if trail.scanned[place] {
-            prices[place] = cost_at(paths, place).minus(end);
         }
     }
 }
@@ -160,78 +97,136 @@ impl Seats {
     }
 }
 
-// Turns the path to a free number over: each event on it takes the number that it found, back to the event that the search is for.
-fn turn_over(size: usize, event: u32, sink: u32, trail: &Trail, seats: &mut Seats)
-    requires small { size ≤ 32 }
-    requires way { WayBack size size (finder_in trail.now) event seats.old sink }
-    ensures { seats.new ≡ turned size (finder_in trail.now) event seats.old sink }
-{
-    let mut number = sink;
-    for _turn in 0..size {
-        let found = trail.finders[number as usize - 1];
-        let Some(finder) = found else { unreachable() };
-        let own = seats.seat(finder, number);
-        if finder == event {
-            return;
+// What is required of an event or a place is that it lies within the size of these pairs, which no type of its own can name.
+// Prices and seats are the caller's, who is told what they are afterwards: so the prices' room is required and what stands
+// behind is promised where they are written. A method by `&mut self` says that the pairs stay, a fact of the call.
+impl<'a, C: Cost> Search<'a, C> {
+    // The cost that stands at a place of the paths.
+    fn cost_at(&self, place: usize) -> C
+        requires { place < self.now.pairs.size }
+        ensures { result ≡ slice_index_or self.now.paths.now place C.Cost.kind.zero }
+    {
+        self.paths[place]
+    }
+
+    // The cost of the path to the number at a place, where one is found.
+    fn path(&self, place: usize) -> Option<C>
+        requires { place < self.now.pairs.size }
+        ensures { result ≡ path_in C.Cost.kind self.now.known self.now.paths.now (suc place) }
+    {
+        self.known[place].finder().map(|_finder| self.paths[place])
+    }
+
+    // Goes over the row of an event with a lead: each number that is not scanned takes the path over the event where that is less.
+    fn relax_row(&mut self, event: u32, lead: C)
+        requires { Within self.old.pairs.size event }
+        ensures relaxed { Relaxed C.Cost.kind (graded self.old.pairs) self.old.pairs.size event lead self.old.known self.old.paths.now self.new.known self.new.paths.now }
+        ensures pairs { self.new.pairs ≡ self.old.pairs }
+    {
+        let pairs = self.pairs;
+        for (place, grade) in pairs.row(event).iter().enumerate() {
+            if let Reach::Scanned(_finder) = self.known[place] {
+                continue;
+            }
+            if let Some(path) = shorter_path(self.path(place), *grade, lead) {
+                self.known[place] = Reach::Reached(event);
+                self.paths[place] = path;
+            }
         }
-        let Some(next) = own else { unreachable() };
-        number = next;
     }
-    unreachable()
-}
 
-// Searches for a shortest augmenting path from an event, on a new trail: the place of the free number where it ends.
-fn find_sink<C: Cost>(
-    grades: &[Grade<C>],
-    size: usize,
-    event: u32,
-    seats: &Seats,
-    prices: &[C],
-    trail: &mut Trail,
-    paths: &mut [C],
-) -> usize
-    requires { Ready C.Cost.kind grades.now size event seats.now prices.now paths.old }
-    ensures { Found C.Cost.kind (grade_in grades.now size) size event seats.now (listed_cost C.Cost.kind prices.now) trail.new paths.new result }
-{
-    trail.finders = [None; WIDTH];
-    trail.scanned = [false; WIDTH];
-    relax_row(grades, size, event, C::zero(), trail, paths);
-    for _turn in 0..size {
-        let Some(place) = nearest(size, seats, trail, paths, prices) else {
-            unreachable()
-        };
-        let held = seats.holders[place];
-        let Some(holder) = held else {
-            return place;
-        };
-        let Grade::Open(cost) = grade_of(grades, size, holder, place) else {
-            unreachable()
-        };
-        let lead = cost_at(paths, place).minus(cost);
-        trail.scanned[place] = true;
-        relax_row(grades, size, holder, lead, trail, paths);
+    // The place of the number to go on with: reached and not scanned, and of the least key, which is its path less its price.
+    fn nearest(&self, seats: &Seats, prices: &[C]) -> Option<usize>
+        requires { self.now.pairs.size ≤ length prices.now }
+        ensures { NearestPlace C.Cost.kind self.now.pairs.size (listed_cost C.Cost.kind prices.now) (scanned_in self.now.known) (path_in C.Cost.kind self.now.known self.now.paths.now) result }
+    {
+        let mut best = None;
+        for (place, price) in prices[..self.pairs.size()].iter().enumerate() {
+            if let Reach::Reached(_finder) = self.known[place] {
+                let key = self.cost_at(place).minus(*price);
+                if is_nearer(best, key, seats.holders[place].is_none()) {
+                    best = Some((place, key));
+                }
+            }
+        }
+        best.map(|(place, _key)| place)
     }
-    unreachable()
-}
 
-// Seats one event more: prices follow the search, and the path that it found is turned over.
-fn seat_next<C: Cost>(
-    grades: &[Grade<C>],
-    size: usize,
-    event: u32,
-    seats: &mut Seats,
-    prices: &mut [C],
-    trail: &mut Trail,
-    paths: &mut [C],
-)
-    requires { Ready C.Cost.kind grades.now size event seats.old prices.old paths.old }
-    ensures seated { Seated C.Cost.kind (grade_in grades.now size) size seats.new (listed_cost C.Cost.kind prices.new) }
-    ensures more { SeatsOneMore C.Cost.kind (grade_in grades.now size) size (seat_in seats.old) event (seat_in seats.new) }
-    ensures beyond { AgreePast size (listed_cost C.Cost.kind prices.new) (listed_cost C.Cost.kind prices.old) }
-{
-    let sink = find_sink(grades, size, event, seats, prices, trail, paths);
-    reprice(size, trail, paths, cost_at(paths, sink), prices);
-    turn_over(size, event, sink as u32 + 1, trail, seats);
+    // Searches for a shortest augmenting path from an event, from the start: the place of the free number where it ends.
+    fn find_sink(&mut self, event: u32, seats: &Seats, prices: &[C]) -> usize
+        requires { Ready C.Cost.kind self.old.pairs event seats.now prices.now }
+        ensures found { Found C.Cost.kind (graded self.old.pairs) self.old.pairs.size event seats.now (listed_cost C.Cost.kind prices.now) self.new.known self.new.paths.now result }
+        ensures pairs { self.new.pairs ≡ self.old.pairs }
+    {
+        let pairs = self.pairs;
+        self.known = [Reach::Unseen; WIDTH];
+        self.relax_row(event, C::zero());
+        for _turn in 0..pairs.size() {
+            let Some(place) = self.nearest(seats, prices) else {
+                unreachable()
+            };
+            let held = seats.holders[place];
+            let Some(holder) = held else {
+                return place;
+            };
+            let Grade::Open(cost) = pairs.grade(holder, place) else {
+                unreachable()
+            };
+            let lead = self.cost_at(place).minus(cost);
+            let Reach::Reached(finder) = self.known[place] else {
+                unreachable()
+            };
+            self.known[place] = Reach::Scanned(finder);
+            self.relax_row(holder, lead);
+        }
+        unreachable()
+    }
+
+    // Sets the price of each scanned number to its path less the path to the sink.
+    fn reprice(&self, end: C, prices: &mut [C])
+        requires { self.now.pairs.size ≤ length prices.old }
+        ensures is { Agree self.now.pairs.size (listed_cost C.Cost.kind prices.new) (less_end C.Cost.kind (scanned_in self.now.known) (listed_cost C.Cost.kind self.now.paths.now) end (listed_cost C.Cost.kind prices.old)) }
+        ensures beyond { AgreePast self.now.pairs.size (listed_cost C.Cost.kind prices.new) (listed_cost C.Cost.kind prices.old) }
+    {
+        for (place, reach) in self.known[..self.pairs.size()].iter().enumerate() {
+            if let Reach::Scanned(_finder) = *reach {
+                prices[place] = self.cost_at(place).minus(end);
+            }
+        }
+    }
+
+    // Turns the path to a free number over: each event on it takes the number that it found, back to the event that the search is for.
+    fn turn_over(&self, event: u32, sink: u32, seats: &mut Seats)
+        requires { WayBack self.now.pairs.size self.now.pairs.size (finder_in self.now.known) event seats.old sink }
+        ensures { seats.new ≡ turned self.now.pairs.size (finder_in self.now.known) event seats.old sink }
+    {
+        let mut number = sink;
+        for _turn in 0..self.pairs.size() {
+            let found = self.known[number as usize - 1].finder();
+            let Some(finder) = found else { unreachable() };
+            let own = seats.seat(finder, number);
+            if finder == event {
+                return;
+            }
+            let Some(next) = own else { unreachable() };
+            number = next;
+        }
+        unreachable()
+    }
+
+    // Seats one event more: prices follow the search, and the path that it found is turned over.
+    fn seat_next(&mut self, event: u32, seats: &mut Seats, prices: &mut [C])
+        requires { Ready C.Cost.kind self.old.pairs event seats.old prices.old }
+        ensures seated { Seated C.Cost.kind (graded self.old.pairs) self.old.pairs.size seats.new (listed_cost C.Cost.kind prices.new) }
+        ensures more { SeatsOneMore C.Cost.kind (graded self.old.pairs) self.old.pairs.size (seat_in seats.old) event (seat_in seats.new) }
+        ensures beyond { AgreePast self.old.pairs.size (listed_cost C.Cost.kind prices.new) (listed_cost C.Cost.kind prices.old) }
+        ensures pairs { self.new.pairs ≡ self.old.pairs }
+    {
+        let sink = self.find_sink(event, seats, prices);
+        let end = self.cost_at(sink);
+        self.reprice(end, prices);
+        self.turn_over(event, sink as u32 + 1, seats);
+    }
 }
 
 // Sets the price of each number to zero.
@@ -240,38 +235,31 @@ fn clear<C: Cost>(size: usize, prices: &mut [C])
     ensures zero { Agree size (listed_cost C.Cost.kind prices.new) (λ _. C.Cost.kind.zero) }
     ensures beyond { AgreePast size (listed_cost C.Cost.kind prices.new) (listed_cost C.Cost.kind prices.old) }
 {
-    for place in 0..size {
-        prices[place] = C::zero();
-    }
+    prices[..size].fill_with(|| C::zero());
 }
 
 // A renumbering of least cost, and the prices of numbers that prove it so: event after event takes a number, along a shortest augmenting path.
-pub(crate) fn settle<C: Cost>(
-    grades: &[Grade<C>],
-    size: usize,
-    prices: &mut [C],
-    paths: &mut [C],
-) -> Seats
-    requires grid { Grid grades.now size }
-    requires solvable { Solvable C.Cost.kind (grade_in grades.now size) size }
-    requires prices { size ≤ length prices.old }
-    requires paths { size ≤ length paths.old }
-    ensures seated { Seated C.Cost.kind (grade_in grades.now size) size result (listed_cost C.Cost.kind prices.new) }
-    ensures all { (i : ℕ) → Within size i → 1 ≤ seat_in result i }
-    ensures beyond { AgreePast size (listed_cost C.Cost.kind prices.new) (listed_cost C.Cost.kind prices.old) }
+pub(crate) fn settle<C: Cost>(pairs: &Pairs<C>, prices: &mut [C], paths: &mut [C]) -> Seats
+    requires solvable { Solvable C.Cost.kind (graded pairs.now) pairs.now.size }
+    requires prices { pairs.now.size ≤ length prices.old }
+    requires paths { pairs.now.size ≤ length paths.old }
+    ensures seated { Seated C.Cost.kind (graded pairs.now) pairs.now.size result (listed_cost C.Cost.kind prices.new) }
+    ensures all { (i : ℕ) → Within pairs.now.size i → 1 ≤ seat_in result i }
+    ensures beyond { AgreePast pairs.now.size (listed_cost C.Cost.kind prices.new) (listed_cost C.Cost.kind prices.old) }
 {
-    clear(size, prices);
+    clear(pairs.size(), prices);
     let mut seats = Seats {
-        numbers: [None; WIDTH],
         holders: [None; WIDTH],
+        numbers: [None; WIDTH],
     };
-    let mut trail = Trail {
-        finders: [None; WIDTH],
-        scanned: [false; WIDTH],
+    let mut search = Search {
+        pairs: *pairs,
+        known: [Reach::Unseen; WIDTH],
+        paths,
     };
-    for place in 0..size {
-        let event = place as u32 + 1;
-        seat_next(grades, size, event, &mut seats, prices, &mut trail, paths);
+    // event after event; nothing is indexed
+    for place in 0..pairs.size() {
+        search.seat_next(place as u32 + 1, &mut seats, prices);
     }
     seats
 }

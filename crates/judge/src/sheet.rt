@@ -37,12 +37,10 @@ impl<C: Cost> Sheet<C> {
 }
 
 // n times x.
-fn filled<X: Copy>(heap: Global, x: X, n: usize) -> Result<Vec<X>, AllocError>
+pub(crate) fn filled<X: Copy>(heap: Global, x: X, n: usize) -> Result<Vec<X>, AllocError>
     ensures { IfOk result (λ v. v.items ≡ replicate n x) }
 {
     let mut list = Vec::new(heap);
-    for _ in 0..n {
-        list.push(x)?;
-    }
+    list.resize(n, x)?;
     Ok(list)
 }

@@ -2,7 +2,8 @@
 // costs come to. Arguments: the kind of table, size, places, delta, bound and number of windows.
 #![tactic(auto)]
 
-ghost use Rattle.std.specs.Prelude.{◌≡◌, ℤ, pos};
+ghost use Rattle.std.specs.Prelude.{◌≡◌};
+ghost use Rattle.judgebench.specs.Numbers.{numbers_of};
 
 use anyhow::anyhow;
 use costs::pair::Pair;
@@ -10,31 +11,13 @@ use costs::plain::Plain;
 use judge::judging::Judge;
 use judge::sheet::Sheet;
 use judge::verdict::Verdict;
-use std::env;
+use random::Random;
+use shown::parts::Parts;
+use std::alloc::Global;
+use std::{env, fmt};
 use tables::TraceTable;
 use tables::pricing::{Difference, Mismatch, Mixed, Pricing};
 use tables::summed::Summed;
-
-// A linear congruential generator.
-#[derive(Drop)]
-struct Random {
-    state: u64,
-}
-
-impl Random {
-    // A number from 1 to n.
-    fn one_to(&mut self, n: u32) -> u32 {
-        self.state = self
-            .state
-            .wrapping_mul(6364136223846793005)
-            .wrapping_add(1442695040888963407);
-        let high = self.state >> 33;
-        if n == 0 {
-            return 0;
-        }
-        (high % u64::from(n)) as u32 + 1
-    }
-}
 
 // What to measure.
 #[derive(Clone, Copy)]
@@ -44,49 +27,23 @@ struct Plan {
     windows: u32,
 }
 
-// A cost as two numbers, the second 0 where it has but one.
-trait Parts {
-    ghost parts: { Self → ℤ × ℤ };
-
-    fn parts(&self) -> (i64, i64)
-        ensures { result ≡ parts self.now };
-}
-
-impl Parts for Plain {
-    ghost parts = { λ p. (p.value, pos 0) };
-
-    fn parts(&self) -> (i64, i64) {
-        (self.value(), 0)
-    }
-}
-
-impl Parts for Pair<Plain, Plain> {
-    ghost parts = { λ p. (p.first.value, p.second.value) };
-
-    fn parts(&self) -> (i64, i64) {
-        (self.first.value(), self.second.value())
-    }
-}
-
 fn main(rt: HostRuntime) -> anyhow::Result<()> {
     run(&rt)
 }
 
 fn run(rt: &HostRuntime) -> anyhow::Result<()> {
-    let mut args = env::args(rt)?.skip(1);
-    let (Some(kind), Some(size), Some(places)) = (args.next(), args.next(), args.next()) else {
-        return Err(anyhow!("judgebench KIND SIZE PLACES DELTA BOUND WINDOWS"));
-    };
-    let (Some(delta), Some(bound), Some(windows)) = (args.next(), args.next(), args.next()) else {
+    let args: Vec<String> = env::args(rt)?.collect(rt.alloc())?;
+    let [_, kind, size, places, delta, bound, windows, ..] = args.as_slice() else {
         return Err(anyhow!("judgebench KIND SIZE PLACES DELTA BOUND WINDOWS"));
     };
     let plan = Plan {
-        size: size.parse::<u32>()?,
-        places: places.parse::<u32>()?,
-        windows: windows.parse::<u32>()?,
+        size: size.parse()?,
+        places: places.parse()?,
+        windows: windows.parse()?,
     };
-    let delta = delta.parse::<u32>()?;
-    let bound = Plain::of(bound.parse::<u32>()?);
+    let delta = delta.parse()?;
+    let bound = Plain::from(bound.parse::<u32>()?);
+    // the words of a job, and as there each picks a table of its own type
     match kind.as_str() {
         "mismatch" => measure(rt, Mismatch, plan, bound),
         "difference" => measure(rt, Difference { delta }, plan, bound),
@@ -96,37 +53,15 @@ fn run(rt: &HostRuntime) -> anyhow::Result<()> {
             plan,
             Pair {
                 first: bound,
-                second: Plain::of(0),
+                second: Plain::from(0),
             },
         ),
         _ => Err(anyhow!("the kind is mismatch, difference or mixed")),
     }
 }
 
-// One judgement, without its refusal.
-fn judge_window<T: TraceTable>(
-    judge: &mut Judge<T::Value>,
-    table: &T,
-    bound: &T::Value,
-    sheet: &mut Sheet<T::Value>,
-) -> Option<Verdict<T::Value>> {
-    let answer = judge.judge(
-        table,
-        bound,
-        &mut sheet.numbers,
-        &mut sheet.event_prices,
-        &mut sheet.number_prices,
-        &mut sheet.marks,
-        &mut sheet.work,
-    );
-    match answer {
-        Ok(verdict) => Some(verdict),
-        Err(_) => None,
-    }
-}
-
 // How the verdicts fell, and what the least costs come to.
-#[derive(Drop)]
+#[derive(Clone, Copy, Default)]
 struct Counts {
     within: u64,
     over: u64,
@@ -135,23 +70,22 @@ struct Counts {
 }
 
 impl Counts {
-    fn add<C: Parts + Drop>(&mut self, verdict: Option<Verdict<C>>) {
+    fn add<C: Parts + Drop>(&mut self, verdict: Verdict<C>) {
         match verdict {
-            Some(Verdict::Within(cost)) => {
+            Verdict::Within(cost) => {
                 self.within = self.within.wrapping_add(1);
-                self.add_cost(cost);
+                self.add_cost(&cost);
             }
-            Some(Verdict::Over(cost)) => {
+            Verdict::Over(cost) => {
                 self.over = self.over.wrapping_add(1);
-                self.add_cost(cost);
+                self.add_cost(&cost);
             }
-            Some(Verdict::None) => self.none = self.none.wrapping_add(1),
-            None => {}
+            Verdict::None => self.none = self.none.wrapping_add(1),
         }
     }
 
-    fn add_cost<C: Parts + Drop>(&mut self, cost: C) {
-        let (first, second) = cost.parts();
+    fn add_cost<C: Parts>(&mut self, cost: &C) {
+        let (first, second) = numbers(cost);
         self.sums = (
             self.sums.0.wrapping_add(first),
             self.sums.1.wrapping_add(second),
@@ -159,15 +93,47 @@ impl Counts {
     }
 }
 
-fn print_counts(rt: &impl Print, windows: u32, counts: &Counts) -> anyhow::Result<()> {
-    let within = counts.within;
-    let over = counts.over;
-    let none = counts.none;
-    let (first, second) = counts.sums;
-    println!(rt;
-        "{windows} windows: within {within}, over {over}, none {none}, costs {first} {second}"
-    )?;
-    Ok(())
+// A cost as two numbers, the second 0 where it has but one.
+fn numbers<C: Parts>(cost: &C) -> (i64, i64)
+    ensures { result ≡ numbers_of (C.Parts.parts cost.now) }
+{
+    let (first, second) = cost.parts();
+    match second {
+        None => (first.value(), 0),
+        Some(second) => (first.value(), second.value()),
+    }
+}
+
+impl fmt::Display for Counts {
+    fn fmt<W: fmt::Write>(&self, f: &mut fmt::Formatter<W>) -> fmt::Result {
+        let Counts {
+            within,
+            over,
+            none,
+            sums: (first, second),
+        } = *self;
+        write!(
+            f,
+            "within {within}, over {over}, none {none}, costs {first} {second}"
+        )
+    }
+}
+
+// A table over a random trace, with a window full of random events.
+fn full_table<P: Pricing + Drop>(
+    heap: Global,
+    random: &mut Random,
+    pricing: P,
+    plan: Plan,
+) -> anyhow::Result<Summed<P>> {
+    let trace = random.list(heap, plan.places, plan.size)?;
+    let Ok(mut table) = Summed::new(pricing, plan.size, &trace) else {
+        return Err(anyhow!("the table is refused"));
+    };
+    for _ in 0..plan.places {
+        let _ = table.take(random.one_to(plan.size));
+    }
+    Ok(table)
 }
 
 // Judges one window after another and prints the counts.
@@ -181,29 +147,18 @@ where
     P::Value: Parts,
 {
     let heap = rt.alloc();
-    let mut random = Random { state: 1 };
-    let mut trace = Vec::new(heap);
-    for _ in 0..plan.places {
-        trace.push(random.one_to(plan.size))?;
-    }
-    let Ok(mut table) = Summed::new(pricing, plan.size, &trace) else {
-        return Err(anyhow!("the table is refused"));
-    };
-    for _ in 0..plan.places {
-        let _ = table.take(random.one_to(plan.size));
-    }
+    let mut random = Random::new(1);
+    let mut table = full_table(heap, &mut random, pricing, plan)?;
     let mut judge = Judge::new(heap)?;
     let mut sheet = Sheet::new(heap)?;
-    let mut counts = Counts {
-        within: 0,
-        over: 0,
-        none: 0,
-        sums: (0, 0),
-    };
+    let mut counts = Counts::default();
     for _ in 0..plan.windows {
         let _ = table.take(random.one_to(plan.size));
-        let verdict = judge_window(&mut judge, &table, &bound, &mut sheet);
-        counts.add(verdict);
+        // a refused judgement counts as none of the three
+        if let Ok(verdict) = judge.judge_sheet(&table, &bound, &mut sheet) {
+            counts.add(verdict);
+        }
     }
-    print_counts(rt, plan.windows, &counts)
+    println!(rt; "{} windows: {counts}", plan.windows)?;
+    Ok(())
 }

@@ -4,35 +4,26 @@
 // bytes it adds to a text. Where memory runs out it returns an error, and part of a line may stand there.
 #![tactic(auto)]
 
-ghost use Rattle.std.specs.Prelude.{◌≡◌, [], ◌∷◌, ◌++◌, map, IfOk, string_bytes, codes, decimal, OnOk};
+ghost use Rattle.std.specs.Prelude.{◌≡◌, ℕ, List, [], ◌∷◌, ◌++◌, map, Some, IfSome, IfOk, string_bytes, codes, decimal};
 ghost use Rattle.std.specs.Fmt.{signed_decimal};
-ghost use Rattle.lines.specs.Lines.{line};
+ghost use Rattle.lines.specs.Lines.{spaced, line, Adds};
 
-use fields::{
-    end_line, push_number, push_spaced_counts, push_spaced_number, push_spaced_numbers,
-    push_spaced_word, push_word,
-};
 use printed::Printed;
 use std::alloc::{AllocError, Global};
+use std::fmt::Display;
 
-pub mod fields;
 pub mod printed;
 
 // The line of a fault: the layer that it lies in, its number there, and its place.
-pub fn fault_line(
+pub fn fault_line<L: Display + Drop>(
     heap: Global,
-    layer: &str,
+    layer: L,
     number: u32,
     place: usize,
 ) -> Result<String, AllocError>
-    ensures { IfOk result (λ s. string_bytes s ≡ line (codes "fault" ∷ layer.now ∷ decimal number ∷ decimal place ∷ [])) }
+    ensures { IfOk result (λ s. IfSome (L.Display.output layer) (λ word. string_bytes s ≡ line (codes "fault" ∷ word ∷ decimal number ∷ decimal place ∷ []))) }
 {
-    let mut out = String::from_str(heap, "fault")?;
-    push_spaced_word(&mut out, layer)?;
-    push_spaced_number(&mut out, number as usize)?;
-    push_spaced_number(&mut out, place)?;
-    end_line(&mut out)?;
-    Ok(out)
+    format!(in heap; "fault {layer} {number} {place}\n")
 }
 
 // The line of a hit: its position, what it costs, and the numbers of its events.
@@ -42,22 +33,30 @@ pub fn push_hit<C: Printed>(
     cost: &C,
     numbers: &[u32],
 ) -> Result<(), AllocError>
-    ensures { OnOk result (string_bytes out.new ≡ string_bytes out.old ++ line (decimal position ∷ (map signed_decimal (C.Printed.parts cost.now) ++ map decimal numbers.now))) }
+    ensures { Adds result out.old out.new (line (decimal position ∷ (map signed_decimal (C.Printed.parts cost.now) ++ map decimal numbers.now))) }
 {
-    push_number(out, position)?;
+    write!(out, "{position}")?;
     cost.push_parts(out)?;
-    push_spaced_numbers(out, numbers)?;
-    end_line(out)?;
-    Ok(())
+    push_spaced(out, numbers)?;
+    writeln!(out)
 }
 
 // The line of a word and the counts after it.
 pub fn push_count_line(out: &mut String, word: &str, counts: &[usize]) -> Result<(), AllocError>
-    ensures { OnOk result (string_bytes out.new ≡ string_bytes out.old ++ line (word.now ∷ map decimal counts.now)) }
+    ensures { Adds result out.old out.new (line (word.now ∷ map decimal counts.now)) }
 {
-    push_word(out, word)?;
-    push_spaced_counts(out, counts)?;
-    end_line(out)?;
+    write!(out, "{word}")?;
+    push_spaced(out, counts)?;
+    writeln!(out)
+}
+
+// Each item after a space, as its type prints it.
+fn push_spaced<T: Display>(out: &mut String, items: &[T]) -> Result<(), AllocError>
+    ensures { (text : T → List ℕ) → ((x : T) → T.Display.output x ≡ Some (text x)) → Adds result out.old out.new (spaced (map text items.now)) }
+{
+    for item in items {
+        write!(out, " {item}")?;
+    }
     Ok(())
 }
 
@@ -80,7 +79,7 @@ mod tests {
         let Some(first) = Plain::new(-20) else {
             return Err(Fail::new("-20 is no cost"));
         };
-        let second = Plain::of(5);
+        let second = Plain::from(5);
         let mut out = String::new(rt.alloc());
         push_count_line(&mut out, "report", &[2])?;
         push_hit(&mut out, 7, &first, &[2, 1])?;

@@ -1,27 +1,27 @@
 // Costs as fields of a line.
-ghost use Rattle.std.specs.Prelude.{◌≡◌, List, [], ◌∷◌, ◌++◌, map, ℤ, string_bytes, OnOk};
+ghost use Rattle.std.specs.Prelude.{List, [], ◌∷◌, ◌++◌, map, ℤ};
 ghost use Rattle.std.specs.Fmt.{signed_decimal};
-ghost use Rattle.lines.specs.Lines.{spaced};
+ghost use Rattle.lines.specs.Lines.{spaced, Adds};
 
-use crate::fields::push_spaced_signed;
 use costs::pair::Pair;
 use costs::plain::Plain;
 use std::alloc::AllocError;
 
+// The numbers that a line says of a cost of any kind. This is no `Display`: a pair is two fields of a line, and the clauses name its numbers.
 pub trait Printed {
     // the numbers that a cost is written as
     ghost parts: { Self → List ℤ };
 
     // Each of these numbers, after a space.
     fn push_parts(&self, out: &mut String) -> Result<(), AllocError>
-        ensures { OnOk result (string_bytes out.new ≡ string_bytes out.old ++ spaced (map signed_decimal (parts self.now))) };
+        ensures { Adds result out.old out.new (spaced (map signed_decimal (parts self.now))) };
 }
 
 impl Printed for Plain {
     ghost parts = { λ cost. cost.value ∷ [] };
 
     fn push_parts(&self, out: &mut String) -> Result<(), AllocError> {
-        push_spaced_signed(out, self.value())
+        write!(out, " {self}")
     }
 }
 
@@ -31,7 +31,6 @@ impl<A: Printed, B: Printed> Printed for Pair<A, B> {
 
     fn push_parts(&self, out: &mut String) -> Result<(), AllocError> {
         self.first.push_parts(out)?;
-        self.second.push_parts(out)?;
-        Ok(())
+        self.second.push_parts(out)
     }
 }

@@ -1,5 +1,5 @@
 -- The verdict by trying is 'within' exactly where some allowed renumbering costs at most the bound.
-use Rattle.std.proofs.Common.{◌≡◌, ℕ, Bool, true, false, cond, List, sym, refl, ap, ◌∙◌, ⊎_elim, arith}
+use Rattle.std.proofs.Common.{◌≡◌, ℕ, Bool, true, false, cond, List, sym, refl, ap, ◌∙◌, ⊎_elim}
 use Rattle.std.proofs.lemmas.Bool.{both_ways, cond-true}
 use Rattle.costs.specs.Kind.{Kind, Laws, AtMost}
 use Rattle.tables.specs.Table.{Table, pair_at}
@@ -11,9 +11,7 @@ use Rattle.judge.specs.declared.verdict.Verdict.{Verdict}
 use Rattle.judge.specs.declared.verdict.Verdict.TheVariants.{Within as Inside, Over, None as Never}
 use Rattle.judge.proofs.Least.{NoneOf, OneOf, answers}
 use Rattle.judge.proofs.Listing.{enumerated}
-
-never : {X : Type 0} → ◌≡◌ {A = ℕ} 0 1 → X
-never z = absurd (omega arith)
+use Rattle.watch.proofs.Outcomes.{never}
 
 not_inside : {C : Type 0} (c : C) → ◌≡◌ {A = Verdict C} Never (Inside c) → ⊥
 not_inside c e = never cc

@@ -1,15 +1,16 @@
 -- Feeding a log in two stretches.
-use Rattle.std.proofs.Common.{◌≡◌, ℕ, zero, suc, ◌+◌, Bool, true, false, cond, List, [], ◌∷◌, take, drop, Some, None, sym, refl, ap, ◌∙◌, suc-add, zero-add, arith}
+use Rattle.std.proofs.Common.{◌≡◌, ℕ, zero, suc, ◌+◌, Bool, true, false, cond, List, [], ◌∷◌, take, drop, Some, None, sym, refl, ap, ◌∙◌, arith}
+use Rattle.std.proofs.Math.Seq.{take-add}
+use Rattle.std.proofs.lemmas.List.Sums.{fold-append}
 use Rattle.tables.specs.Table.{within}
 use Rattle.watch.specs.Ledger.{Ledger, after_feed}
 use Rattle.watch.specs.Walking.{after_feeds, first_outside}
 use Rattle.watch.proofs.Walks.{size_stays}
+use Rattle.watch.proofs.Outcomes.{never}
 
 pub feeds_join : {C : Type 0} (l : Ledger C) (log : List ℕ) (i f : ℕ) → after_feeds (after_feeds l (take i log)) (take f (drop i log)) ≡ after_feeds l (take (i + f) log)
-feeds_join l log zero f = ap (λ (n : ℕ). after_feeds l (take n log)) (sym (zero-add f))
-feeds_join l [] (suc i) zero = ap (λ (n : ℕ). after_feeds l (take n [])) (sym (suc-add i zero))
-feeds_join l [] (suc i) (suc f) = ap (λ (n : ℕ). after_feeds l (take n [])) (sym (suc-add i (suc f)))
-feeds_join l (e ∷ es) (suc i) f = feeds_join (after_feed l e) es i f ∙ ap (λ (n : ℕ). after_feeds l (take n (e ∷ es))) (sym (suc-add i f))
+feeds_join l log i f =
+    sym (fold-append after_feed l (take i log) (take f (drop i log))) ∙ ap (after_feeds l) (sym (take-add i f log))
 
 pub size_after : {C : Type 0} (l : Ledger C) (es : List ℕ) → (after_feeds l es).table.size ≡ l.table.size
 size_after l [] = refl
@@ -25,4 +26,4 @@ inside_later s p (e ∷ es) (suc f) h =
   where
     go : (b : Bool) → cond b (first_outside s (p + 1) es) (Some p) ≡ None → first_outside s (p + 1) es ≡ None
     go true h = h
-    go false h = let z : ◌≡◌ {A = ℕ} 0 1 = cc in absurd (omega arith)
+    go false h = never cc

@@ -7,6 +7,7 @@ use Rattle.std.proofs.lemmas.Bool.{cond-true}
 use Rattle.tables.specs.Table.{Table, within, last}
 use Rattle.watch.specs.Ledger.{Ledger, after_feed}
 use Rattle.watch.specs.Walking.{after_feeds, first_outside}
+use Rattle.watch.proofs.Outcomes.{never}
 use Rattle.report.specs.Windows.{at_window, window_at, Full}
 
 -- only the last events of the first part can be among the last ones
@@ -36,7 +37,7 @@ inside_all s p (e ∷ es) h = go (within s e) refl (inside_all s (p + 1) es) h
   where
     go : (b : Bool) → within s e ≡ b → (first_outside s (p + 1) es ≡ None → Inside s es) → cond b (first_outside s (p + 1) es) (Some p) ≡ None → Inside s (e ∷ es)
     go true w rest h = (w, rest h)
-    go false w rest h = let z : ◌≡◌ {A = ℕ} 0 1 = cc in absurd (omega arith)
+    go false w rest h = never cc
 
 module _ {C : Type 0} (l : Ledger C) where
   fed_one : (w : List ℕ) (e : ℕ) → within l.table.size e ≡ true → after_feed (at_window l w) e ≡ at_window l (last l.table.places (w ++ (e ∷ [])))

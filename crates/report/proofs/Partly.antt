@@ -1,12 +1,12 @@
 -- A report of the first events of a log.
-use Rattle.std.proofs.Common.{◌≡◌, ℕ, ◌+◌, ◌≤◌, List, [], ◌++◌, map, length, take, drop, None, sym, refl, ap, ◌∙◌, append_assoc, append-nil, arith, length-drop, drop-drop}
+use Rattle.std.proofs.Common.{◌≡◌, ℕ, ◌+◌, ◌≤◌, List, [], ◌++◌, map, length, take, drop, None, sym, ap, ◌∙◌, append_assoc, append-nil, arith, length-drop, drop-drop, Option}
 use Rattle.std.specs.List.{AllByRecursion}
 use Rattle.std.proofs.lemmas.List.{drop_all}
 use Rattle.costs.specs.Kind.{Kind}
+use Rattle.judge.specs.declared.verdict.Verdict.{Verdict}
 use Rattle.watch.specs.Ledger.{Ledger}
 use Rattle.watch.specs.Walking.{walk, after_feeds, first_outside}
 use Rattle.watch.specs.declared.walk.Next.{Next}
-use Rattle.watch.specs.declared.walk.Outcome.{Outcome}
 use Rattle.report.specs.Outcomes.{outcomes_from, hits_in, tally}
 use Rattle.report.specs.Reports.{hit_at, listed_hit, Numbered}
 use Rattle.report.specs.declared.Hit.{Hit}
@@ -23,13 +23,6 @@ pub record Partly {C : Type 0} (k : Kind C) (l here : Ledger C) (log : List ℕ)
   pub few : windows.0 + windows.1 + windows.2 ≤ fed
   pub within : fed ≤ length log
 
-sum3_none : (n : ℕ × ℕ × ℕ) → n ≡ sum3 (0, 0, 0) n
-sum3_none n =
-    let a : n.0 ≡ 0 + n.0 = omega arith in
-    let b : n.1 ≡ 0 + n.1 = omega arith in
-    let c : n.2 ≡ 0 + n.2 = omega arith in
-    λ i. (a i, b i, c i)
-
 sum3_assoc : (x y z : ℕ × ℕ × ℕ) → sum3 x (sum3 y z) ≡ sum3 (sum3 x y) z
 sum3_assoc x y z =
     let a : x.0 + (y.0 + z.0) ≡ x.0 + y.0 + z.0 = omega arith in
@@ -37,18 +30,7 @@ sum3_assoc x y z =
     let c : x.2 + (y.2 + z.2) ≡ x.2 + y.2 + z.2 = omega arith in
     λ i. (a i, b i, c i)
 
-pub partly_none : {C : Type 0} (k : Kind C) (l : Ledger C) (log : List ℕ) → Partly k l l log 0 [] (0, 0, 0)
-partly_none k l log = record {
-  hits = refl;
-  counts = sum3_none (tally (outcomes_from k l 1 log));
-  numbers = tt;
-  ledger = refl;
-  inside = refl;
-  few = omega arith;
-  within = omega arith;
-}
-
-module _ {C : Type 0} (k : Kind C) (l here next : Ledger C) (log : List ℕ) (fed : ℕ) (found found' : List (Hit C)) (windows : ℕ × ℕ × ℕ) (partly : Partly k l here log fed found windows) (free : first_outside l.table.size (fed + 1) (drop fed log) ≡ None) where
+module _ {C : Type 0} {k : Kind C} {l here : Ledger C} {log : List ℕ} {fed : ℕ} {found : List (Hit C)} {windows : ℕ × ℕ × ℕ} (next : Ledger C) (found' : List (Hit C)) (partly : Partly k l here log fed found windows) (free : first_outside l.table.size (fed + 1) (drop fed log) ≡ None) where
   abbrev w : Next C
   w = walk k here (drop fed log)
 
@@ -68,7 +50,7 @@ module _ {C : Type 0} (k : Kind C) (l here next : Ledger C) (log : List ℕ) (fe
         partly.counts
         ∙ ap (sum3 windows) (walk_splits k here (drop fed log) fed).counts
         ∙ sum3_assoc windows w.counts (tally (later k here (drop fed log) fed w.fed))
-        ∙ ap (λ (xs : List (ℕ × Outcome C)). sum3 (sum3 windows w.counts) (tally xs)) same_later
+        ∙ ap (λ (xs : List (ℕ × Option (Verdict C))). sum3 (sum3 windows w.counts) (tally xs)) same_later
 
     more_ledger : next ≡ after_feeds l (take (fed + w.fed) log)
     more_ledger = goes ∙ ap (λ (m : Ledger C). after_feeds m (take w.fed (drop fed log))) partly.ledger ∙ feeds_join l log fed w.fed
@@ -91,20 +73,20 @@ module _ {C : Type 0} (k : Kind C) (l here next : Ledger C) (log : List ℕ) (fe
     }
 
 -- a report of all events
-module _ {C : Type 0} (k : Kind C) (l here : Ledger C) (log : List ℕ) (fed : ℕ) (found : List (Hit C)) (windows : ℕ × ℕ × ℕ) (partly : Partly k l here log fed found windows) (all : length log ≤ fed) where
+module _ {C : Type 0} {k : Kind C} {l here : Ledger C} {log : List ℕ} {fed : ℕ} {found : List (Hit C)} {windows : ℕ × ℕ × ℕ} (partly : Partly k l here log fed found windows) (all : length log ≤ fed) where
   nothing_left : outcomes_from k here (fed + 1) (drop fed log) ≡ []
   nothing_left = ap (outcomes_from k here (fed + 1)) (drop_all fed log all)
 
   pub all_hits : map hit_at found ≡ hits_in (outcomes_from k l 1 log)
   all_hits =
-      sym (partly.hits ∙ ap (λ (xs : List (ℕ × Outcome C)). map hit_at found ++ hits_in xs) nothing_left ∙ append-nil (map hit_at found))
+      sym (partly.hits ∙ ap (λ (xs : List (ℕ × Option (Verdict C))). map hit_at found ++ hits_in xs) nothing_left ∙ append-nil (map hit_at found))
 
   pub all_counts : windows ≡ tally (outcomes_from k l 1 log)
   all_counts =
       let a : windows.0 ≡ windows.0 + 0 = omega arith in
       let b : windows.1 ≡ windows.1 + 0 = omega arith in
       let c : windows.2 ≡ windows.2 + 0 = omega arith in
-      (λ i. (a i, b i, c i)) ∙ sym (partly.counts ∙ ap (λ (xs : List (ℕ × Outcome C)). sum3 windows (tally xs)) nothing_left)
+      (λ i. (a i, b i, c i)) ∙ sym (partly.counts ∙ ap (λ (xs : List (ℕ × Option (Verdict C))). sum3 windows (tally xs)) nothing_left)
 
   pub all_inside : first_outside l.table.size 1 log ≡ None
   all_inside = partly.inside ∙ ap (first_outside l.table.size (fed + 1)) (drop_all fed log all)

@@ -1,25 +1,17 @@
 -- Lists that are long enough, by their lengths.
 use Rattle.std.proofs.Common.{◌≡◌, ℕ, ◌+◌, ◌-◌, ◌≤◌, Bool, true, List, [], ◌∷◌, length, drop, Some, None, Ok, Err, Option, Result, sym, refl, ap, ◌∙◌, arith}
-use Rattle.std.proofs.lemmas.Bool.Decides.{nat_tests}
 use Rattle.costs.specs.Kind.{Kind}
-use Rattle.tables.specs.Limits.{max_size}
 use Rattle.judge.specs.Judging.{Lists, has_room}
-use Rattle.judge.specs.Sheets.{lengths, blank}
+use Rattle.judge.specs.Sheets.{lengths}
 use Rattle.watch.specs.Ledger.{Ledger}
 use Rattle.watch.specs.Walking.{walk, log_from, first_outside, unless_outside, next_answer}
 use Rattle.watch.specs.declared.walk.Next.{Next}
 use Rattle.watch.proofs.Nexts.{answer_is}
+use Rattle.watch.proofs.Outcomes.{never}
 
 -- lists of these lengths have room for s events
 abbrev pub room_for : ℕ → ℕ × ℕ × ℕ × ℕ × ℕ → Bool
 room_for s n = has_room s n.0 n.1 n.2 n.3 n.4
-
-small_room : (s : ℕ) → s ≤ 32 → has_room s 32 32 32 32 256 ≡ true
-small_room s h = grind (arith, nat_tests)
-
--- blank lists have room for each size
-pub blank_room : {C : Type 0} (k : Kind C) (s : ℕ) (handed : Lists C) → s ≤ max_size → handed ≡ blank k → room_for s (lengths handed) ≡ true
-blank_room k s handed h same = ap (λ (x : Lists _). room_for s (lengths x)) same ∙ small_room s h
 
 -- what next answers after some events of a log, with lists that have room
 module _ {C : Type 0} (k : Kind C) (l : Ledger C) (log : List ℕ) (fed s : ℕ) (before : Lists C) (within : fed ≤ length log) (sized : s ≡ l.table.size) (room : room_for s (lengths before) ≡ true) where
@@ -34,8 +26,8 @@ module _ {C : Type 0} (k : Kind C) (l : Ledger C) (log : List ℕ) (fed s : ℕ)
 -- an answer of next that was accepted, or refused for an event
 pub accepted : {C : Type 0} (x : Option ℕ) (n w : Next C) → ◌≡◌ {A = Result (Next C) (ℕ × List ℕ)} (Ok n) (unless_outside x w) → (x ≡ None) × (n ≡ w)
 accepted None n w e = (refl, cc)
-accepted (Some p) n w e = let z : ◌≡◌ {A = ℕ} 0 1 = cc in absurd (omega arith)
+accepted (Some p) n w e = never cc
 
 pub refused : {C : Type 0} (x : Option ℕ) (y : ℕ × List ℕ) (w : Next C) → ◌≡◌ {A = Result (Next C) (ℕ × List ℕ)} (Err y) (unless_outside x w) → (p : ℕ) × (x ≡ Some p) × (y ≡ (5, p ∷ []))
-refused None y w e = let z : ◌≡◌ {A = ℕ} 0 1 = cc in absurd (omega arith)
+refused None y w e = never cc
 refused (Some p) y w e = (p, refl, cc)

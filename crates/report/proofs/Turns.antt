@@ -10,17 +10,15 @@ use Rattle.watch.specs.Ledger.{Ledger, standing}
 use Rattle.watch.specs.Walking.{walk, log_from, after_feeds, first_outside, next_answer, next_refusal, Walked}
 use Rattle.watch.specs.declared.walk.Next.{Next}
 use Rattle.watch.specs.declared.walk.NextRefusal.{NextRefusal}
+use Rattle.watch.proofs.Outcomes.{never}
 use Rattle.report.specs.Reports.{hit_at, listed_hit, Cheapest, Numbered, Kept, NotReported}
 use Rattle.report.specs.declared.Hit.{Hit}
-use Rattle.report.specs.declared.ReportError.TheVariants.{Refused}
+use Rattle.watch.specs.declared.failure.Failure.TheVariants.{Refused}
 use Rattle.report.proofs.Feeds.{feeds_join, size_after}
 use Rattle.report.proofs.Founds.{walk_found, found_cheapest}
 use Rattle.report.proofs.Partly.{Partly, partly_more}
 use Rattle.report.proofs.Rooms.{room_for, next_is, accepted, refused}
 use Rattle.report.proofs.Steps.{sum3, walk_few, walk_feeds}
-
-never : {X : Type 0} → ◌≡◌ {A = ℕ} 0 1 → X
-never z = absurd (omega arith)
 
 -- a hit that was kept has its numbers
 new_numbered : {C : Type 0} (k : Kind C) (l : Ledger C) (log : List ℕ) (end : ℕ) (hit : Option C) (ns : List ℕ) (new : List (Hit C)) → map hit_at new ≡ listed_hit end hit → AllByRecursion (λ (h : Hit C). vec_items h.numbers ≡ ns) new → ((c : C) → hit ≡ Some c → Cheapest k (standing (after_feeds l (take end log))) c ns) → AllByRecursion (Numbered k l log) new
@@ -43,7 +41,7 @@ pub record Turned {C : Type 0} (k : Kind C) (l here : Ledger C) (log : List ℕ)
   pub fits : fed + n.fed ≤ length log
   pub feeds : fed < length log → 1 ≤ n.fed
 
-module _ {C : Type 0} (k : Kind C) (l here : Ledger C) (log : List ℕ) (fed : ℕ) (found : List (Hit C)) (windows : ℕ × ℕ × ℕ) (before : Lists C) (partly : Partly k l here log fed found windows) where
+module _ {C : Type 0} {k : Kind C} {l here : Ledger C} {log : List ℕ} {fed : ℕ} {found : List (Hit C)} {windows : ℕ × ℕ × ℕ} (before : Lists C) (partly : Partly k l here log fed found windows) where
   size_here : l.table.size ≡ here.table.size
   size_here = sym (ap (λ (m : Ledger C). m.table.size) partly.ledger ∙ size_after l (take fed log))
 
@@ -111,7 +109,7 @@ module _ {C : Type 0} (k : Kind C) (l here : Ledger C) (log : List ℕ) (fed : �
         let numbered : AllByRecursion (Numbered k l log) found' = subst (AllByRecursion (Numbered k l log)) (sym kept.added) (All-append (Numbered k l log) found kept.new partly.numbers new) in
         let adds : map hit_at found' ≡ map hit_at found ++ listed_hit (fed + w.fed) w.hit =
         ap (map hit_at) kept.added ∙ map-append hit_at found kept.new ∙ ap (λ (xs : List (ℕ × C)). map hit_at found ++ xs) kept.places in
-        partly_more k l here next log fed found found' windows partly free led adds numbered
+        partly_more next found' partly free led adds numbered
 
     pub turn_goes_on : (n : Next C) → n ≡ w → next ≡ after_feeds here (take n.fed (log_from (fed + 1) log)) → Walked k here (log_from (fed + 1) log) before after → Kept (fed + n.fed) n.hit (take s after.numbers) found found' → Partly k l next log (fed + n.fed) found' (sum3 windows n.counts)
     turn_goes_on n is fed-to walked kept =

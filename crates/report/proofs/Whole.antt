@@ -1,5 +1,5 @@
 -- What a report by feeding tells of the windows of the log.
-use Rattle.std.proofs.Common.{◌≡◌, ℕ, ◌+◌, ◌-◌, ◌<◌, ◌≤◌, List, [], map, length, take, None, vec_items, sym, ap, ◌∙◌, subst, arith}
+use Rattle.std.proofs.Common.{◌≡◌, ℕ, ◌+◌, ◌-◌, ◌<◌, ◌≤◌, List, [], map, length, take, None, vec_items, sym, ap, ◌∙◌, subst, arith, Some, Option}
 use lib.ListN.{length-map}
 use Rattle.std.specs.List.{range_with_len}
 use Rattle.std.proofs.lemmas.Simd.{map-map}
@@ -11,15 +11,14 @@ use Rattle.judge.specs.declared.verdict.Verdict.{Verdict}
 use Rattle.judge.specs.declared.verdict.Verdict.TheVariants.{Within as Inside}
 use Rattle.judge.proofs.Listing.{all_in, in_map, from_map}
 use Rattle.watch.specs.Ledger.{Ledger, standing}
-use Rattle.watch.specs.Walking.{led_to, after_feeds, first_outside}
-use Rattle.watch.specs.declared.walk.Outcome.{Outcome}
-use Rattle.watch.specs.declared.walk.Outcome.TheVariants.{Hit}
+use Rattle.watch.specs.Walking.{after_feeds, first_outside}
+use Rattle.watch.proofs.Worked.{all_from}
 use Rattle.report.specs.Outcomes.{outcomes_from, hits_in, tally}
 use Rattle.report.specs.Reports.{hit_at, Cheapest, Numbered, Reported}
 use Rattle.report.specs.Windows.{at_window, window_at, pairs_on, verdict_on, Full, full_windows, begin_of, begins, Rising, verdict_tally, AllWindows}
 use Rattle.report.specs.declared.Hit.{Hit as OneHit}
 use Rattle.report.specs.declared.Report.{Report}
-use Rattle.report.proofs.Along.{along, all_from_in, in_hits, from_hits, hits_rise, counted_all, counted_hits}
+use Rattle.report.proofs.Along.{along, in_hits, from_hits, hits_rise, counted_all, counted_hits}
 use Rattle.report.proofs.Exactly.{inside_affordable, affordable_inside}
 use Rattle.report.proofs.Fulls.{outcome_at, hit_is, tally_is, stands, outcomes_are}
 
@@ -30,7 +29,7 @@ module _ {C : Type 0} (k : Kind C) (l : Ledger C) (log : List ℕ) (empty : l.ta
   abbrev v : ℕ → Verdict C
   v = verdict_on k l log
 
-  abbrev f : ℕ → Outcome C
+  abbrev f : ℕ → Option (Verdict C)
   f = outcome_at k l log
 
   abbrev hits : List (OneHit C)
@@ -77,7 +76,7 @@ module _ {C : Type 0} (k : Kind C) (l : Ledger C) (log : List ℕ) (empty : l.ta
       let to = full.1 in
       let q = p + m - 1 in
       let back : q + 1 - m ≡ p = omega arith in
-      let hit : f q ≡ Hit c = cond-false _ _ _ (le-ltb q m (omega arith)) ∙ ap (λ (x : ℕ). led_to (v x)) back ∙ ap led_to is in
+      let hit : f q ≡ Some (Inside c) = cond-false _ _ _ (le-ltb q m (omega arith)) ∙ ap (λ (x : ℕ). Some (v x)) back ∙ ap Some is in
       let there : In (q, c) (map hit_at hits) = subst (λ (ys : List (ℕ × C)). In (q, c) ys) (sym hits_are) (in_hits f 1 (length log) q c (omega arith) (omega arith) hit) in
       let t = from_map hit_at (q, c) hits there in
       begun_at p q c back t.0 t.1 t.2
@@ -114,7 +113,7 @@ module _ {C : Type 0} (k : Kind C) (l : Ledger C) (log : List ℕ) (empty : l.ta
     rising = rise;
     found = found;
     none_missing = none_missing;
-    numbers = all_from_in (λ (h : OneHit C). Cheapest k (pairs_on l log (begin_of m h)) h.cost (vec_items h.numbers)) hits numbered;
+    numbers = all_from (λ (h : OneHit C). Cheapest k (pairs_on l log (begin_of m h)) h.cost (vec_items h.numbers)) hits numbered;
     within = within_are;
     windows = ap (λ (n : ℕ × ℕ × ℕ). n.0 + n.1 + n.2) counts_are ∙ counted_all v 1 (full_windows m log);
     counts = counts_are;

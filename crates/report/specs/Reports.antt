@@ -7,11 +7,12 @@ use Rattle.judge.specs.Allowed.{allowed, cost}
 use Rattle.judge.specs.Renumbering.{Renumbering}
 use Rattle.watch.specs.Ledger.{Ledger, standing}
 use Rattle.watch.specs.Walking.{after_feeds, first_outside, next_refusal}
+use Rattle.watch.specs.declared.failure.Failure.{Failure}
+use Rattle.watch.specs.declared.failure.Failure.TheVariants.{Refused, Memory}
+use Rattle.watch.specs.declared.walk.NextRefusal.{NextRefusal}
 use Rattle.report.specs.Outcomes.{outcomes_from, hits_in, tally}
 use Rattle.report.specs.declared.Hit.{Hit}
 use Rattle.report.specs.declared.Report.{Report}
-use Rattle.report.specs.declared.ReportError.{ReportError}
-use Rattle.report.specs.declared.ReportError.TheVariants.{Refused, Memory}
 
 -- where a hit was found, and its cost
 abbrev pub hit_at : {C : Type 0} → Hit C → ℕ × C
@@ -47,6 +48,6 @@ pub record Kept {C : Type 0} (end : ℕ) (hit : Option C) (numbers : List ℕ) (
   pub own : AllByRecursion (λ (h : Hit C). vec_items h.numbers ≡ numbers) new
 
 -- why there is none: an event of the log is refused with 5 at its position, or there was no memory
-abbrev pub NotReported : {C : Type 0} → Ledger C → List ℕ → ReportError → Type 0
+abbrev pub NotReported : {C : Type 0} → Ledger C → List ℕ → Failure NextRefusal → Type 0
 NotReported l log (Refused e) = (p : ℕ) × (first_outside l.table.size 1 log ≡ Some p) × (next_refusal e ≡ (5, p ∷ []))
 NotReported l log Memory = Unit {0}

@@ -1,5 +1,5 @@
 -- What a report says of the windows of a log, when the watch's own window was empty before it. Positions count from 1.
-use Rattle.std.specs.Prelude.{◌≡◌, ℕ, ◌+◌, ◌-◌, ◌<◌, ◌≤◌, List, [], ◌∷◌, map, length, take, drop, vec_items}
+use Rattle.std.specs.Prelude.{◌≡◌, ℕ, ◌+◌, ◌-◌, ◌<◌, ◌≤◌, List, [], ◌∷◌, map, length, take, drop, vec_items, Some}
 use Rattle.std.specs.List.{range_with_len, AllByRecursion}
 use Rattle.costs.specs.Kind.{Kind}
 use Rattle.costs.specs.Lists.{In}
@@ -8,7 +8,6 @@ use Rattle.judge.specs.Judging.{Affordable}
 use Rattle.judge.specs.Least.{judged}
 use Rattle.judge.specs.declared.verdict.Verdict.{Verdict}
 use Rattle.watch.specs.Ledger.{Ledger, standing}
-use Rattle.watch.specs.Walking.{led_to}
 use Rattle.report.specs.Outcomes.{add_count}
 use Rattle.report.specs.Reports.{Cheapest}
 use Rattle.report.specs.declared.Hit.{Hit}
@@ -54,7 +53,7 @@ Rising (p ∷ ps) = AllByRecursion (λ q. p < q) ps × Rising ps
 -- how many of the verdicts at these positions are within the bound, over it, and none
 abbrev pub verdict_tally : {C : Type 0} → (ℕ → Verdict C) → List ℕ → ℕ × ℕ × ℕ
 verdict_tally v [] = (0, 0, 0)
-verdict_tally v (p ∷ ps) = add_count (led_to (v p)) (verdict_tally v ps)
+verdict_tally v (p ∷ ps) = add_count (Some (v p)) (verdict_tally v ps)
 
 -- the hits are exactly the full windows with an allowed renumbering within the bound, from left to right, each once and
 -- with a cheapest renumbering of its own; and each full window is counted, once and by its own verdict, a hit as within

@@ -5,13 +5,14 @@ ghost use Rattle.std.specs.Prelude.{◌≡◌, ℕ, ◌+◌, ◌≤◌, [], ◌�
 ghost use Rattle.watch.specs.Meaning.{ledger_of};
 ghost use Rattle.report.specs.Reports.{Kept, Reported, NotReported};
 ghost use Rattle.report.specs.Windows.{AllWindows};
-ghost use Rattle.report.specs.declared.ReportError.TheVariants.{Refused as NotFed, Memory as NoMemory};
+ghost use Rattle.watch.specs.declared.failure.Failure.TheVariants.{Memory as NoMemory};
 
 use costs::Cost;
 use judge::sheet::Sheet;
-use std::alloc::{AllocError, Global};
+use std::alloc::Global;
 use tables::TraceTable;
 use watch::Watch;
+use watch::failure::Failure;
 use watch::walk::NextRefusal;
 
 // A window within the bound.
@@ -32,36 +33,7 @@ pub struct Report<C> {
 }
 
 // Why there is no report.
-#[derive(Clone, Copy, PartialEq, Eq, Debug)]
-pub enum ReportError {
-    Refused(NextRefusal),
-    Memory,
-}
-
-impl From<AllocError> for ReportError {
-    ghost from_gives = { λ _ r. r ≡ NoMemory };
-
-    fn from(_error: AllocError) -> ReportError {
-        ReportError::Memory
-    }
-}
-
-impl<X: Drop> From<std::alloc::AllocFailed<X>> for ReportError {
-    ghost from_gives = { λ _ r. r ≡ NoMemory };
-
-    fn from(refused: std::alloc::AllocFailed<X>) -> ReportError {
-        drop(refused);
-        ReportError::Memory
-    }
-}
-
-impl From<NextRefusal> for ReportError {
-    ghost from_gives = { λ e r. r ≡ NotFed e };
-
-    fn from(refusal: NextRefusal) -> ReportError {
-        ReportError::Refused(refusal)
-    }
-}
+pub type ReportError = Failure<NextRefusal>;
 
 // Feeds a whole log to a watch, from hit to hit, and reports what was found. Refused where an event of the log is.
 // When the window was empty before it, the hits are exactly the windows of the log that lie within the bound.
@@ -78,6 +50,7 @@ pub fn report_log<T: TraceTable>(
     let mut hits = Vec::new(heap);
     let mut counts = (0, 0, 0);
     let mut fed = 0;
+    // No range or iterator gives these steps: how far one goes is known only from its own answer.
     while fed < log.len() {
         let next = watch.next_sheet(log, fed + 1, &mut sheet)?;
         fed += next.fed;
@@ -100,20 +73,10 @@ fn keep<C: Cost>(
     ensures failed { IfErr result (λ e. e ≡ NoMemory) }
 {
     if let Some(cost) = hit {
-        let numbers = first_of(heap, size, numbers)?;
+        let numbers = Vec::from_slice(heap, &numbers[..size.min(numbers.len())])?;
         hits.push(Hit { end, cost, numbers })?;
     }
     Ok(())
-}
-
-// The first numbers of a list, all of them where there are not so many.
-fn first_of(heap: Global, count: usize, numbers: &[u32]) -> Result<Vec<u32>, AllocError>
-    ensures { IfOk result (λ v. v.items ≡ take count numbers.now) }
-{
-    if count >= numbers.len() {
-        return Vec::from_slice(heap, numbers);
-    }
-    Vec::from_slice(heap, &numbers[0..count])
 }
 
 // The counts of two stretches of a log together.

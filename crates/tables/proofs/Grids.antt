@@ -4,19 +4,17 @@ use borrow.Rule.Slice.PartMut.{put_mid, post_of}
 use Rattle.std.specs.List.{between}
 use Rattle.std.proofs.lemmas.Nat.{mul-add-lt}
 use Rattle.std.proofs.lemmas.List.Edits.{length-between, get_or-between}
-use Rattle.std.proofs.lemmas.List.{get_or_append_left, get_or-append_right, get_or-take, get_or-drop, length-take-le, drop_all}
+use Rattle.std.proofs.lemmas.List.{get_or_append_left, get_or-append_right, get_or-take, get_or-drop, length-take-le}
 use Rattle.std.proofs.lemmas.Slice.{drop-put_mid}
 use Rattle.std.proofs.lemmas.Bool.{cases_lt, cases_eq}
-use Rattle.std.proofs.lemmas.Bool.Decides.{nat_tests}
 use Rattle.costs.specs.Kind.{Kind}
-use Rattle.tables.specs.Rows.{Started, Placed}
-use Rattle.tables.specs.Summing.{add_grade, graded, summing}
-use Rattle.tables.specs.Table.{Table, Within, pair_at, row_at, GridOf}
+use Rattle.tables.specs.Rows.{Placed}
+use Rattle.tables.specs.Summing.{add_grade, graded}
+use Rattle.tables.specs.Table.{Table, Within, pair_at, row_at}
 use Rattle.tables.specs.declared.grade.Grade.{Grade}
 use Rattle.tables.specs.declared.grade.Grade.TheVariants.{Closed}
-use Rattle.tables.specs.Graded.{graded_none, graded_skip, graded_add}
+use Rattle.tables.specs.Graded.{graded_skip, graded_add}
 use Rattle.tables.proofs.Rows.{row_length, row_place}
-use Rattle.tables.proofs.Walk.{pair_inside}
 
 -- an element after a part of the list was written
 module _ {X : Type 0} (a k : ℕ) (xs ys : List X) (inside : a ≤ length xs) where
@@ -76,12 +74,6 @@ module _ {C : Type 0} (k : Kind C) (price : ℕ → ℕ → Grade C) (s : ℕ) (
   abbrev pub GridFrom : ℕ → List (Grade C) → Type 0
   GridFrom j grades = (r c : ℕ) → Within s r → Within s c → get_or grades (cell s r c) Closed ≡ graded k price (drop j ps) (drop j es) r c
 
-  pub grid_begins : (n : ℕ) (grades : List (Grade C)) → n ≡ s * s → Started k (s * s) n grades → GridFrom (length es) grades
-  grid_begins n grades whole o r c rin cin =
-      let below = mul-add-lt (r - 1) s (c - 1) s (omega (arith, rin)) (omega (arith, cin)) in
-      o.inside (cell s r c) (omega arith) (omega arith)
-      ∙ sym (graded_none k price r c (drop (length es) ps) (drop (length es) es) (drop_all (length es) es (omega arith)))
-
   pub grid_adds : length es ≤ length ps → (j : ℕ) → 0 < j → j ≤ length es → (e : ℕ) → Within s e → get_or es (j - 1) 0 ≡ e
       → (m : ℕ) (grades ys : List (Grade C)) → length grades ≡ s * s → m ≡ (e - 1) * s + s
       → Placed k (price (get_or ps (j - 1) 0)) s (between ((e - 1) * s) m grades) ys → GridFrom j grades → GridFrom (j - 1) (put_mid ((e - 1) * s) (m - (e - 1) * s) grades ys)
@@ -112,11 +104,3 @@ module _ {C : Type 0} (k : Kind C) (price : ℕ → ℕ → Grade C) (s : ℕ) (
             ] in
             stays ∙ from r c rin cin ∙ sym (graded_skip k price r c ps es (j - 1) j next p-in e-in (λ q. other (sym q ∙ is))))
       ]
-
-  pub grid_ends : (grades : List (Grade C)) → GridFrom 0 grades → GridOf (summing k price s ps es) grades
-  grid_ends grades from r c rin cin =
-      let event = rin.0 in
-      let event-to = rin.1 in
-      let number = cin.0 in
-      let number-to = cin.1 in
-      from r c rin cin ∙ sym (pair_inside (summing k price s ps es) r c (grind (arith, nat_tests)) (grind (arith, nat_tests)))

@@ -1,5 +1,4 @@
 pub mod Rows
 pub mod Walk
 pub mod Grids
-pub mod Traces
 pub mod Pinned

@@ -1,8 +1,11 @@
 -- Pins that are kept in a list, when one place is written, and the rows under them.
-use Rattle.std.proofs.Common.{◌≡◌, ℕ, zero, suc, ◌+◌, ◌<◌, Bool, true, false, cond, ◌&&◌, ◌||◌, eqb, List, length, get_or, set, replicate, is_some, is_ok, Some, None, Ok, Option, sym, refl, ap, ◌∙◌, ⊎_elim, add-one, arith, length-set, get_or-set_other, get_or-set_same}
+use Rattle.std.proofs.Common.{◌≡◌, ℕ, zero, suc, ◌+◌, ◌<◌, ◌≤◌, Bool, true, false, cond, ◌&&◌, ◌||◌, eqb, List, [], ◌∷◌, length, get_or, set, replicate, is_some, is_ok, Some, None, Ok, Err, Option, take, drop, sym, refl, ap, ◌∙◌, ⊎_elim, add-one, arith, length-set, get_or-set_other, get_or-set_same}
 use mathlib.Core.Path.{fun_ext}
+use Rattle.std.specs.List.{list_any}
+use Rattle.std.proofs.Math.Bool.{or_comm}
+use Rattle.std.proofs.lemmas.List.Folds.{list_any_more}
 use Rattle.std.proofs.lemmas.Bool.{eqb-true, eqb-false, eq-eqb, ne_eqb, cases_lt, cond-true, cond-false, and_from}
-use Rattle.tables.specs.Pins.{pins_in, no_pins, repin, under_pin, pinned, pins_to, is_taken, pin_answer, after_pin, unpin_answer, after_unpin, pin_at}
+use Rattle.tables.specs.Pins.{pins_in, no_pins, repin, under_pin, pinned, pins_to, is_taken, pin_answer, after_pin, pin_at}
 use Rattle.tables.specs.Rows.{PinnedRow}
 use Rattle.tables.specs.Table.{Table, within, pair_at, row_at}
 use Rattle.tables.specs.declared.grade.Grade.{Grade}
@@ -24,8 +27,28 @@ pins_none_by (suc n) (suc r) = pins_none_by n r
 pub pins_none : (n : ℕ) → pins_in (replicate n None) ≡ no_pins
 pins_none n = fun_ext (pins_none_by n)
 
-pub taken_more : (n : ℕ) (pins : ℕ → Option ℕ) (c : ℕ) → (pins_to c (pins (n + 1)) || is_taken n pins c) ≡ is_taken (n + 1) pins c
-taken_more n pins c = rw add-one
+-- a search among the pins of the events 1 to n for a number
+module _ (test : Option ℕ → Bool) (c : ℕ) (same : (p : Option ℕ) → test p ≡ pins_to c p) where
+  searched_from : (x : Option ℕ) (xs : List (Option ℕ)) (n : ℕ) → n ≤ length xs → list_any test (take n xs) ≡ is_taken n (pins_in (x ∷ xs)) c
+  searched_from x xs zero h = refl
+  searched_from x xs (suc n) h =
+      let more : list_any test (take (n + 1) xs) ≡ (list_any test (take n xs) || test (get_or xs n None)) = list_any_more test xs n None (omega arith) in
+      (rw add-one at more)
+      ∙ or_comm (list_any test (take n xs)) (test (get_or xs n None))
+      ∙ ap (λ b. b || list_any test (take n xs)) (same (get_or xs n None))
+      ∙ ap (λ b. pins_to c (get_or xs n None) || b) (searched_from x xs n (omega arith))
+
+  pub searched : (xs : List (Option ℕ)) (m n : ℕ) → m ≡ n → n < length xs → list_any test (take m (drop 1 xs)) ≡ is_taken n (pins_in xs) c
+  searched [] m n e h = absurd (omega arith)
+  searched (x ∷ xs) m n e h = rw e (searched_from x xs n (omega arith))
+
+-- a pin whose number another event has
+module _ (s : ℕ) (pins : ℕ → Option ℕ) (r c : ℕ) (event : within s r ≡ true) (number : within s c ≡ true) (unpinned : is_some (pins r) ≡ false) (taken : is_taken s pins c ≡ true) where
+  pub pin_meets : pin_answer s pins r c ≡ Err 12
+  pin_meets = cond-true _ _ _ (and_from _ _ event number) ∙ cond-false _ _ _ unpinned ∙ cond-true _ _ _ taken
+
+  pub pin_stays : after_pin s pins r c ≡ pins
+  pin_stays = cond-false _ _ _ (ap is_ok pin_meets)
 
 -- a pin that is not refused
 module _ (s : ℕ) (pins : ℕ → Option ℕ) (r c : ℕ) (event : within s r ≡ true) (number : within s c ≡ true) (unpinned : is_some (pins r) ≡ false) (untaken : is_taken s pins c ≡ false) where
@@ -35,19 +58,8 @@ module _ (s : ℕ) (pins : ℕ → Option ℕ) (r c : ℕ) (event : within s r �
   pub pin_adds : after_pin s pins r c ≡ repin pins r (Some c)
   pin_adds = cond-true _ _ _ (ap is_ok pin_goes)
 
--- an unpin that is not refused
-module _ (s : ℕ) (pins : ℕ → Option ℕ) (r : ℕ) (event : within s r ≡ true) (there : is_some (pins r) ≡ true) where
-  pub unpin_goes : unpin_answer s pins r ≡ Ok tt
-  unpin_goes = cond-true _ _ _ event ∙ cond-true _ _ _ there
-
-  pub unpin_removes : after_unpin s pins r ≡ repin pins r None
-  unpin_removes = cond-true _ _ _ (ap is_ok unpin_goes)
-
 -- a row whose places are closed one by one
 module _ {C : Type 0} (number : ℕ) where
-  pub pinned_none : (row : List (Grade C)) → PinnedRow number 0 row row
-  pinned_none row = record { whole = refl; inside = λ j h. absurd (omega arith); beyond = λ j h. refl }
-
   pub pinned_more : (n : ℕ) (before row : List (Grade C)) → n < length row → (n + 1 ≡ number → ⊥) → PinnedRow number n before row → PinnedRow number (n + 1) before (set row n Closed)
   pinned_more n before row h other p = record {
     whole = length-set row n Closed ∙ p.whole;

@@ -2,7 +2,7 @@
 use Rattle.std.proofs.Common.{◌≡◌, ℕ, ◌+◌, ◌<◌, ◌≤◌, Bool, true, false, cond, ◌&&◌, leb, List, map, length, get_or, set, sym, refl, ap, ◌∙◌, ⊎_elim, arith, length-set, get_or-set_other, get_or-set_same, below_more}
 use Rattle.std.specs.List.{range_with_len}
 use Rattle.std.proofs.lemmas.List.FromFn.{length-map-range_with_len, get_or-map-range_with_len}
-use Rattle.std.proofs.lemmas.List.{ext_get_or, get_or_read}
+use Rattle.std.proofs.lemmas.List.{ext_get_or, get_or_default}
 use Rattle.std.proofs.lemmas.Bool.{cases_lt, cond-true, cond-false, le-leb, lt-leb}
 use Rattle.std.proofs.lemmas.Bool.Decides.{nat_tests}
 use Rattle.costs.specs.Kind.{Kind}
@@ -93,24 +93,16 @@ module _ {C : Type 0} (k : Kind C) (s n : ℕ) where
 
 -- a price that is added number by number
 module _ {C : Type 0} (k : Kind C) (price : ℕ → Grade C) where
-  pub placed_none : (row : List (Grade C)) → Placed k price 0 row row
-  placed_none row = record { whole = refl; inside = λ j h l. absurd (omega arith); beyond = λ j h. refl }
+  pub placed_none : (n : ℕ) (row : List (Grade C)) → n ≡ 0 → Placed k price n row row
+  placed_none n row e = record { whole = refl; inside = λ j h l. absurd (omega arith); beyond = λ j h. refl }
 
-  -- the grade that was read at the place is replaced by its sum with the price
-  pub placed_more : (n : ℕ) (before row : List (Grade C)) (old x : Grade C) → n < length row → old ≡ get_or row n old → x ≡ add_grade k (price (n + 1)) old → Placed k price n before row → Placed k price (n + 1) before (set row n x)
-  placed_more n before row old x h is e p = record {
+  -- the grade at the place is replaced by its sum with the price
+  pub placed_more : (n : ℕ) (before row : List (Grade C)) (d x : Grade C) → n < length row → x ≡ add_grade k (price (n + 1)) (get_or row n d) → Placed k price n before row → Placed k price (n + 1) before (set row n x)
+  placed_more n before row d x h e p = record {
     whole = length-set row n x ∙ p.whole;
     inside = λ j l m. ⊎_elim
         (λ below. get_or-set_other row n j x Closed (λ (q : j ≡ n). omega arith) ∙ p.inside j l below)
-        (λ above. let here : j ≡ n = omega arith in rw here (get_or-set_same row n x Closed h ∙ e ∙ ap (add_grade k (price (n + 1))) (get_or_read row n old h is Closed ∙ p.beyond n (omega arith))))
+        (λ above. let here : j ≡ n = omega arith in rw here (get_or-set_same row n x Closed h ∙ e ∙ ap (add_grade k (price (n + 1))) (get_or_default row n d Closed h ∙ p.beyond n (omega arith))))
         (cases_lt j n);
     beyond = λ j l. get_or-set_other row n j x Closed (λ (q : j ≡ n). omega arith) ∙ p.beyond j (omega arith);
-  }
-
-  -- past the end of the row there is nothing to add
-  pub placed_past : (n : ℕ) (before row : List (Grade C)) → length row ≤ n → Placed k price n before row → Placed k price (n + 1) before row
-  placed_past n before row past p = record {
-    whole = p.whole;
-    inside = λ j l m. p.inside j l (let w = p.whole in omega arith);
-    beyond = λ j l. p.beyond j (omega arith);
   }

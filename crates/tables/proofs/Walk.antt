@@ -1,15 +1,14 @@
 -- A row of grades while a window is walked over, from its last place to its first.
-use Rattle.std.proofs.Common.{◌≡◌, ℕ, ◌+◌, ◌-◌, ◌<◌, ◌≤◌, true, false, List, length, get_or, drop, sym, ap, ◌∙◌, ⊎_elim, arith}
-use Rattle.std.proofs.lemmas.List.{drop_all}
+use Rattle.std.proofs.Common.{◌≡◌, ℕ, ◌+◌, ◌-◌, ◌<◌, ◌≤◌, true, false, List, length, get_or, drop, sym, ◌∙◌, ⊎_elim, arith}
 use Rattle.std.proofs.lemmas.Bool.{and_from, cases_lt, cond-true}
 use Rattle.std.proofs.lemmas.Bool.Decides.{nat_tests}
 use Rattle.costs.specs.Kind.{Kind}
-use Rattle.tables.specs.Rows.{Started, Placed}
-use Rattle.tables.specs.Summing.{add_grade, graded, summing}
+use Rattle.tables.specs.Rows.{Started}
+use Rattle.tables.specs.Summing.{graded, summing}
 use Rattle.tables.specs.Table.{Table, within, pair_at, row_at}
 use Rattle.tables.specs.declared.grade.Grade.{Grade}
 use Rattle.tables.specs.declared.grade.Grade.TheVariants.{Closed}
-use Rattle.tables.specs.Graded.{graded_none, graded_skip, graded_add}
+use Rattle.tables.specs.Graded.{graded_skip}
 use Rattle.tables.proofs.Rows.{row_is, outside_event, outside_number}
 
 -- a pair with both inside 1 to S
@@ -22,13 +21,6 @@ module _ {C : Type 0} (k : Kind C) (price : ℕ → ℕ → Grade C) (size : ℕ
     pub whole : length row ≡ n
     pub inside : (i : ℕ) → i < n → i < size → get_or row i Closed ≡ graded k price (drop j ps) (drop j es) r (i + 1)
     pub beyond : (i : ℕ) → i < n → size ≤ i → get_or row i Closed ≡ Closed
-
-  pub walk_begins : (row : List (Grade C)) → Started k size n row → SummedFrom (length es) row
-  walk_begins row o = record {
-    whole = o.whole;
-    inside = λ i h l. o.inside i h l ∙ sym (graded_none k price r (i + 1) (drop (length es) ps) (drop (length es) es) (drop_all (length es) es (omega arith)));
-    beyond = o.beyond;
-  }
 
   module _ (few : length es ≤ length ps) (j : ℕ) (some : 0 < j) (to : j ≤ length es) where
     p-in : j - 1 < length ps
@@ -45,16 +37,6 @@ module _ {C : Type 0} (k : Kind C) (price : ℕ → ℕ → Grade C) (size : ℕ
       whole = s.whole;
       inside = λ i h l. s.inside i h l ∙ sym (graded_skip k price r (i + 1) ps es (j - 1) j next p-in e-in other);
       beyond = s.beyond;
-    }
-
-    pub walk_adds : (row after : List (Grade C)) → get_or es (j - 1) 0 ≡ r → Placed k (price (get_or ps (j - 1) 0)) size row after → SummedFrom j row → SummedFrom (j - 1) after
-    walk_adds row after same p s = record {
-      whole = p.whole ∙ s.whole;
-      inside = λ i h l.
-          p.inside i (let w = s.whole in omega arith) l
-          ∙ ap (add_grade k (price (get_or ps (j - 1) 0) (i + 1))) (s.inside i h l)
-          ∙ sym (graded_add k price r (i + 1) ps es (j - 1) j next p-in e-in same);
-      beyond = λ i h l. p.beyond i l ∙ s.beyond i h l;
     }
 
   pub walk_ends : within size r ≡ true → (row : List (Grade C)) → SummedFrom 0 row → row ≡ row_at (summing k price size ps es) r n
@@ -80,7 +62,3 @@ row_closed k t r n row out o =
 module _ {C : Type 0} (k : Kind C) (price : ℕ → ℕ → Grade C) (ps es : List ℕ) (r c : ℕ) (few : length es ≤ length ps) (j : ℕ) (some : 0 < j) (to : j ≤ length es) where
   pub pair_skips : (sum : Grade C) → (get_or es (j - 1) 0 ≡ r → ⊥) → sum ≡ graded k price (drop j ps) (drop j es) r c → sum ≡ graded k price (drop (j - 1) ps) (drop (j - 1) es) r c
   pair_skips sum other inv = inv ∙ sym (graded_skip k price r c ps es (j - 1) j (omega arith) (omega arith) (omega arith) other)
-
-  pub pair_adds : (sum after : Grade C) → get_or es (j - 1) 0 ≡ r → after ≡ add_grade k (price (get_or ps (j - 1) 0) c) sum → sum ≡ graded k price (drop j ps) (drop j es) r c → after ≡ graded k price (drop (j - 1) ps) (drop (j - 1) es) r c
-  pair_adds sum after same e inv =
-      e ∙ ap (add_grade k (price (get_or ps (j - 1) 0) c)) inv ∙ sym (graded_add k price r c ps es (j - 1) j (omega arith) (omega arith) (omega arith) same)

@@ -3,7 +3,7 @@ use Rattle.std.specs.Prelude.{◌≡◌, ℕ, ◌-◌, ◌*◌, ◌<◌, ◌≤�
 use Rattle.std.proofs.Common.{arith}
 use Rattle.std.specs.List.{AllByRecursion}
 use Rattle.std.proofs.ByRecursion.{All-from_get_or, All-get_or, All-push, All-drop}
-use Rattle.std.proofs.lemmas.List.{get_or-take, length-take-le}
+use Rattle.std.proofs.lemmas.List.{get_or-take}
 use Rattle.std.proofs.lemmas.Bool.Decides.{nat_tests}
 use Rattle.costs.specs.Kind.{Kind, Laws}
 use Rattle.tables.specs.Limits.{max_size, pair_limit}
@@ -20,27 +20,21 @@ pub few_events : (r : Ring) → length (ring_events r) ≤ r.places
 few_events r = let n = events_length r.places r.slots r.start r.count in let held = r.counted in omega arith
 
 module _ {P : Type 0} (t : Summed P) where
-  pub trace_length : length (take t.window.places t.trace) ≡ t.window.places
-  trace_length = length-take-le t.window.places t.trace (let top = t.window.placed.1 in let all = t.whole in omega arith)
+  pub trace_length : length t.trace.items ≡ t.window.places
+  trace_length = t.whole
 
-  pub few : length (ring_events t.window) ≤ length (take t.window.places t.trace)
+  pub few : length (ring_events t.window) ≤ length t.trace.items
   few = let e = few_events t.window in let n = trace_length in omega arith
 
-  pub number_at : (j : ℕ) → j < t.window.places → slice_index (take t.window.places t.trace) j ≡ slice_index t.trace j
-  number_at j h = get_or-take t.window.places t.trace j 0 h
+  pub number_at : (j : ℕ) → j < t.window.places → slice_index (take t.window.places t.trace.items) j ≡ slice_index t.trace.items j
+  number_at j h = get_or-take t.window.places t.trace.items j 0 h
 
   all_events : AllByRecursion (Within t.size) (ring_events t.window)
-  all_events = All-from_get_or (Within t.size) (ring_events t.window) 0 t.events
+  all_events = All-from_get_or (Within t.size) (ring_events t.window) 0 (λ j h. t.events j 0 h)
 
-  all_numbers : AllByRecursion (λ p. p ≤ max_size) (take t.window.places t.trace)
+  all_numbers : AllByRecursion (λ p. p ≤ max_size) t.trace.items
   all_numbers =
-      All-from_get_or (λ p. p ≤ max_size) (take t.window.places t.trace) 0
-      (λ i h.
-      let h' : i < t.window.places = let n = trace_length in omega arith in
-      let read = number_at i h' in
-      let to = (t.traced i h').1 in
-      let top = t.sized.1 in
-      omega arith)
+      All-from_get_or (λ p. p ≤ max_size) t.trace.items 0 (λ j h. let to = (t.traced j 0 h).1 in let top = t.sized.1 in omega arith)
 
   -- the events after one more, which is 1 to S
   pub events_kept : (r : Ring) (e : ℕ) → within t.size e ≡ true → ring_events r ≡ last t.window.places (ring_events t.window ++ (e ∷ [])) → (j : ℕ) → j < length (ring_events r) → Within t.size (slice_index (ring_events r) j)
@@ -55,15 +49,14 @@ module _ {P : Type 0} (t : Summed P) where
     summed_sound = record {
       size_from = t.sized.0;
       size_to = t.sized.1;
-      places_from = rw trace_length t.window.placed.0;
-      places_to = rw trace_length t.window.placed.1;
+      places_from = rw t.whole t.window.placed.0;
+      places_to = rw t.whole t.window.placed.1;
       held = record { few = few; events = all_events };
       spans = λ w win r c hr hc.
-          let top = t.sized.1 in
           let wide = t.window.placed.1 in
           let to : c ≤ max_size = omega arith in
-          let n = trace_length in
+          let whole = t.whole in
           let short = win.few in
           widen k laws (max_size * length w) pair_limit _ (omega arith)
-          (graded_span k laws (prices t.pricing) r c (λ p h. small t.pricing p c h to) (take t.window.places t.trace) w (omega arith) all_numbers);
+          (graded_span k laws (prices t.pricing) r c (λ p h. small t.pricing p c h to) t.trace.items w (omega arith) all_numbers);
     }

@@ -1,5 +1,5 @@
 -- What a summing table that is kept in a ring means.
-use Rattle.std.specs.Prelude.{ℕ, take}
+use Rattle.std.specs.Prelude.{ℕ}
 use Rattle.costs.specs.Kind.{Kind}
 use Rattle.tables.specs.Ring.{ring_events}
 use Rattle.tables.specs.Summing.{summing}
@@ -7,6 +7,5 @@ use Rattle.tables.specs.Table.{Table}
 use Rattle.tables.specs.declared.grade.Grade.{Grade}
 use Rattle.tables.specs.declared.summed.Summed.{Summed}
 
--- the trace is the first numbers of its array, as many as the window has places
 abbrev pub summed_table : {P C : Type 0} → Kind C → (P → ℕ → ℕ → Grade C) → Summed P → Table C
-summed_table k prices t = summing k (prices t.pricing) t.size (take t.window.places t.trace) (ring_events t.window)
+summed_table k prices t = summing k (prices t.pricing) t.size t.trace.items (ring_events t.window)

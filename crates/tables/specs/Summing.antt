@@ -1,5 +1,6 @@
 -- Tables that sum what the places of their window cost.
-use Rattle.std.specs.Prelude.{ℕ, Bool, true, cond, ◌&&◌, List, [], ◌∷◌, length, Ok, Err, Result, ◌==◌}
+use Rattle.std.specs.Prelude.{ℕ, Bool, cond, ◌&&◌, List, [], ◌∷◌, length, Ok, Err, Result, ◌==◌}
+use Rattle.std.specs.List.{list_all}
 use Rattle.costs.specs.Kind.{Kind}
 use Rattle.tables.specs.Limits.{max_size, max_places}
 use Rattle.tables.specs.Table.{Table, within}
@@ -31,8 +32,7 @@ summing k price size trace window = record {
 
 -- each number is one of 1 to s
 abbrev pub all_within : ℕ → List ℕ → Bool
-all_within s [] = true
-all_within s (n ∷ ns) = within s n && all_within s ns
+all_within s ns = list_all (within s) ns
 
 -- what making a table answers: 6 for the size, 7 for the trace, 8 for the pricing (its delta), in that order;
 -- otherwise the table with an empty window

@@ -11,6 +11,7 @@ ghost use Rattle.tables.specs.Table.{Table, Sound, within, take_answer, taken, p
 use costs::Cost;
 
 pub mod grade;
+pub mod pinning;
 pub mod pins;
 pub mod pricing;
 pub mod refusal;
@@ -61,9 +62,9 @@ pub trait TraceTable {
     fn row(&self, event: u32, row: &mut [Grade<Self::Value>])
         ensures { row.new ≡ row_at (means self.now) event (length row.old) }
     {
-        let top = self.size();
-        for c in 0..row.len() {
-            row[c] = if c < top as usize {
+        let top = self.size() as usize;
+        for (c, grade) in row.iter_mut().enumerate() {
+            *grade = if c < top {
                 self.pair(event, c as u32 + 1)
             } else {
                 Grade::Closed
@@ -81,6 +82,7 @@ pub trait TraceTable {
         if grades.len() != top * top {
             return;
         }
+        // by index: of a list that chunks_exact_mut or split_at_mut lent out in a loop no proof knows what it holds
         for r in 0..top {
             self.row(r as u32 + 1, &mut grades[r * top..r * top + top]);
         }

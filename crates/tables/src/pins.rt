@@ -1,25 +1,21 @@
 // Pins over any trace table: an event that is pinned to a number has its pairs with all other numbers closed. The
 // result is a trace table again.
 ghost use Rattle.std.specs.Prelude.{◌≡◌, ℕ, ◌+◌, ◌≤◌, length};
-ghost use Rattle.tables.specs.Limits.{max_size};
 ghost use Rattle.tables.specs.Refusals.{answered};
 ghost use Rattle.tables.specs.Rows.{PinnedRow};
 ghost use Rattle.tables.specs.Table.{take_answer, taken};
-ghost use Rattle.tables.specs.Pins.{pins_in, no_pins, pinned, pins_to, is_taken, pin_answer, after_pin, unpin_answer, after_unpin, pin_at};
+ghost use Rattle.tables.specs.Pins.{pins_in, no_pins, pinned, pin_answer, after_pin, unpin_answer, after_unpin, pin_at};
 ghost use Rattle.std.proofs.Common.{rules};
 
+use crate::TraceTable;
 use crate::grade::Grade;
+use crate::pinning::Pinning;
 use crate::refusal::Refusal;
-use crate::{MAX_SIZE, TraceTable, is_within};
-
-// A place for each event, counted from 0; place 0 is never used.
-const PIN_PLACES: usize = MAX_SIZE as usize + 1;
 
 #[derive(Drop)]
 pub struct Pins<T> {
     table: T,
-    // the number that event r is pinned to stands at place r
-    pins: [Option<u32>; PIN_PLACES],
+    pins: Pinning,
 }
 
 impl<T: TraceTable> TraceTable for Pins<T> {
@@ -73,7 +69,7 @@ impl<T: TraceTable> Pins<T> {
     {
         Pins {
             table,
-            pins: [None; PIN_PLACES],
+            pins: Pinning::none(),
         }
     }
 
@@ -84,18 +80,7 @@ impl<T: TraceTable> Pins<T> {
         ensures after { pins_in self.new.pins ≡ after_pin (T.TraceTable.means self.old.table).size (pins_in self.old.pins) event number }
         ensures kept { self.new.table ≡ self.old.table }
     {
-        let size = self.table.size();
-        if !is_within(size, event) || !is_within(size, number) {
-            return Err(Refusal::Outside);
-        }
-        if self.pins[event as usize].is_some() {
-            return Err(Refusal::EventPinned);
-        }
-        if is_number_taken(&self.pins, size, number) {
-            return Err(Refusal::NumberTaken);
-        }
-        self.pins[event as usize] = Some(number);
-        Ok(())
+        self.pins.pin(self.table.size(), event, number)
     }
 
     // Removes the pin of an event; refused where the event is outside 1 to S or not pinned.
@@ -104,45 +89,14 @@ impl<T: TraceTable> Pins<T> {
         ensures after { pins_in self.new.pins ≡ after_unpin (T.TraceTable.means self.old.table).size (pins_in self.old.pins) event }
         ensures kept { self.new.table ≡ self.old.table }
     {
-        if !is_within(self.table.size(), event) {
-            return Err(Refusal::Outside);
-        }
-        if self.pins[event as usize].is_none() {
-            return Err(Refusal::NotPinned);
-        }
-        self.pins[event as usize] = None;
-        Ok(())
+        self.pins.unpin(self.table.size(), event)
     }
 
     // The number that an event is pinned to, if any; outside 1 to S there is none.
     pub fn pin_of(&self, event: u32) -> Option<u32>
         ensures { result ≡ pin_at (T.TraceTable.means self.now.table).size (pins_in self.now.pins) event }
     {
-        if !is_within(self.table.size(), event) {
-            return None;
-        }
-        self.pins[event as usize]
-    }
-}
-
-// Whether one of the events from 1 to size is pinned to the number.
-fn is_number_taken(pins: &[Option<u32>; PIN_PLACES], size: u32, number: u32) -> bool
-    requires { size ≤ max_size }
-    ensures { result ≡ is_taken size (pins_in pins.now) number }
-{
-    let mut found = false;
-    for event in 0..size {
-        found = is_pin_to(pins[event as usize + 1], number) | found;
-    }
-    found
-}
-
-fn is_pin_to(pin: Option<u32>, number: u32) -> bool
-    ensures { result ≡ pins_to number pin }
-{
-    match pin {
-        Some(own) => own == number,
-        None => false,
+        self.pins.of(self.table.size(), event)
     }
 }
 
@@ -150,9 +104,9 @@ fn is_pin_to(pin: Option<u32>, number: u32) -> bool
 fn close_others<C: Copy>(number: u32, row: &mut [Grade<C>])
     ensures { PinnedRow number (length row.old) row.old row.new }
 {
-    for c in 0..row.len() {
+    for (c, grade) in row.iter_mut().enumerate() {
         if c + 1 != number as usize {
-            row[c] = Grade::Closed;
+            *grade = Grade::Closed;
         }
     }
 }

@@ -45,21 +45,15 @@ impl Pricing for Mismatch {
 
     fn price(&self, trace: u32, number: u32) -> Grade<Plain> {
         if trace == number {
-            Grade::Open(Plain::of(0))
+            Grade::Open(Plain::from(0))
         } else {
-            Grade::Open(Plain::of(1))
+            Grade::Open(Plain::from(1))
         }
     }
 
     fn is_usable(&self) -> bool {
         true
     }
-}
-
-fn is_delta(delta: u32) -> bool
-    ensures { result ≡ nat_le delta max_delta }
-{
-    delta <= MAX_DELTA
 }
 
 // How far the numbers lie apart; closes the pair where that is above delta.
@@ -82,16 +76,16 @@ impl Pricing for Difference {
         if gap > self.delta {
             Grade::Closed
         } else {
-            Grade::Open(Plain::of(gap))
+            Grade::Open(Plain::from(gap))
         }
     }
 
     fn is_usable(&self) -> bool {
-        is_delta(self.delta)
+        self.delta <= MAX_DELTA
     }
 }
 
-// Whether the numbers differ, and then how far they lie apart; closes as Difference does.
+// The two together: whether the numbers differ, and how far they lie apart; closes as Difference does.
 #[derive(Clone, Copy)]
 pub struct Mixed {
     pub delta: u32,
@@ -107,23 +101,25 @@ impl Pricing for Mixed {
     ghost small = { Prim.search rules };
 
     fn price(&self, trace: u32, number: u32) -> Grade<Pair<Plain, Plain>> {
-        let gap = trace.abs_diff(number);
-        if gap > self.delta {
+        let Grade::Open(second) = self.apart().price(trace, number) else {
             return Grade::Closed;
-        }
-        if gap == 0 {
-            return Grade::Open(Pair {
-                first: Plain::of(0),
-                second: Plain::of(0),
-            });
-        }
-        Grade::Open(Pair {
-            first: Plain::of(1),
-            second: Plain::of(gap),
-        })
+        };
+        let Grade::Open(first) = Mismatch.price(trace, number) else {
+            return Grade::Closed;
+        };
+        Grade::Open(Pair { first, second })
     }
 
     fn is_usable(&self) -> bool {
-        is_delta(self.delta)
+        self.apart().is_usable()
+    }
+}
+
+impl Mixed {
+    // How far the numbers lie apart, alone.
+    fn apart(&self) -> Difference
+        ensures { result.delta ≡ self.now.delta }
+    {
+        Difference { delta: self.delta }
     }
 }

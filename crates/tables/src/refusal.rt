@@ -5,7 +5,7 @@ ghost use Rattle.tables.specs.Refusals.{refusal_number};
 #[derive(Clone, Copy, PartialEq, Eq, Debug)]
 pub enum Refusal {
     // 5: an event is 0 or above the size
-    Event,
+    Event = 5,
     // 6: the size is 0 or above its limit
     Size,
     // 7: the trace has no place or too many, or a number outside 1 to the size
@@ -34,19 +34,6 @@ impl Refusal {
     pub fn number(self) -> u8
         ensures { result ≡ refusal_number self }
     {
-        match self {
-            Refusal::Event => 5,
-            Refusal::Size => 6,
-            Refusal::Trace => 7,
-            Refusal::Delta => 8,
-            Refusal::Bound => 9,
-            Refusal::Outside => 10,
-            Refusal::EventPinned => 11,
-            Refusal::NumberTaken => 12,
-            Refusal::NotPinned => 13,
-            Refusal::WindowShort => 14,
-            Refusal::ListShort => 15,
-            Refusal::Position => 16,
-        }
+        self as u8
     }
 }

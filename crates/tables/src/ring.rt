@@ -1,4 +1,5 @@
-// A ring buffer of events: it holds the last `places` events that were pushed, and shifts none.
+// A ring buffer of events: it holds the last `places` events that were pushed, and shifts none. Slots, start and count
+// are its own, since a VecDeque or a ring of the library would allocate.
 ghost use Rattle.std.specs.Prelude.{◌≡◌, ◌<◌, ◌≤◌, length};
 ghost use Rattle.tables.specs.Limits.{max_places};
 

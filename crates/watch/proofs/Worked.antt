@@ -1,7 +1,7 @@
 -- The worked cases, by trying all renumberings.
 use Rattle.std.proofs.Common.{◌≡◌, ℕ, Bool, true, false, cond, ◌&&◌, T, eqb, leb, List, [], ◌∷◌, length, Ok, Err, filter, Result, sym, refl, ap, ◌∙◌, subst, inl, inr, lit<}
 use Rattle.std.specs.List.{AllByRecursion}
-use Rattle.std.proofs.lemmas.Bool.{eqb-true, le-leb, and_parts, and_from}
+use Rattle.std.proofs.lemmas.Bool.{eqb-true, and_parts, and_from}
 use Rattle.costs.specs.Kind.{Kind, Laws, AtMost}
 use Rattle.costs.specs.Lists.{In}
 use Rattle.costs.specs.Plain.{plain_kind, plain_of}
@@ -11,15 +11,17 @@ use Rattle.tables.specs.Table.{pair_at}
 use Rattle.judge.specs.Allowed.{allowed, cost}
 use Rattle.judge.specs.Enumeration.{renumberings}
 use Rattle.judge.specs.Least.{judged}
-use Rattle.judge.specs.Judging.{Lists, Room, verdict_told, has_room, judge_answer}
+use Rattle.judge.specs.Judging.{Lists, Room, verdict_told, judge_answer}
 use Rattle.judge.specs.declared.verdict.Verdict.TheVariants.{Within as Inside, Over}
 use Rattle.judge.proofs.Crowds.{from_kept}
 use Rattle.judge.proofs.Listing.{enumerated}
 use Rattle.judge.proofs.Violators.{in_kept}
 use Rattle.watch.specs.Cases.{WorkedCases, Says, Fit, AllFits, fed, plain_pairs, two_plain, by_difference, by_mismatch, by_mixed, six_events, one_event, three_events, two_events, two_feeds, with_pin, pin_removed}
 use Rattle.watch.specs.Ledger.{Ledger, standing}
+use Rattle.watch.proofs.Outcomes.{roomy}
 
-all_from : {X : Type 0} (P : X → Type 0) (xs : List X) → ((x : X) → In x xs → P x) → AllByRecursion P xs
+-- what holds of each that is in a list
+pub all_from : {X : Type 0} (P : X → Type 0) (xs : List X) → ((x : X) → In x xs → P x) → AllByRecursion P xs
 all_from P [] f = tt
 all_from P (x ∷ xs) f = (f x (inl refl), all_from P xs (λ y m. f y (inr m)))
 
@@ -38,11 +40,6 @@ tells_one k (Err e) n c = false
 abbrev judge_says : {C : Type 0} → Kind C → Ledger C → Result (ℕ × List C) ℕ
 judge_says k l =
     cond (leb l.table.places (length l.table.window)) (Ok (verdict_told (judged k (pair_at (standing l)) l.table.size l.bound))) (Err 14)
-
-roomy : {C : Type 0} (s : ℕ) (h : Lists C) → Room s h → has_room s (length h.numbers) (length h.event_prices) (length h.number_prices) (length h.marks) (length h.work) ≡ true
-roomy s h r =
-    and_from _ _ (le-leb _ _ r.numbers)
-    (and_from _ _ (le-leb _ _ r.event_prices) (and_from _ _ (le-leb _ _ r.number_prices) (and_from _ _ (le-leb _ _ r.marks) (le-leb _ _ r.work))))
 
 with_room : {C : Type 0} (k : Kind C) (l : Ledger C) (h : Lists C) → Room l.table.size h → judge_answer k (standing l) l.bound h ≡ judge_says k l
 with_room k l h r = ap (λ (b : Bool). cond b (judge_says k l) (Err 15)) (roomy l.table.size h r)

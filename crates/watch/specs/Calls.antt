@@ -1,12 +1,12 @@
 -- Calls of a watch: what the ledger answers to each, and the ledger that it leaves.
-use Rattle.std.specs.Prelude.{ℕ, List, [], ◌∷◌, Some, None, Ok, Err, Option, Result}
+use Rattle.std.specs.Prelude.{ℕ, List, fold, Some, None, Ok, Err, Option, Result}
 use Rattle.costs.specs.Kind.{Kind}
-use Rattle.tables.specs.Refusals.{refusal_number}
+use Rattle.tables.specs.Refusals.{told, answered}
 use Rattle.judge.specs.Judging.{verdict_told, judge_answer}
 use Rattle.judge.specs.Sheets.{sheet_lists}
 use Rattle.watch.specs.Ledger.{Ledger, standing, feed_answer, after_feed, pinning_answer, after_pinning, unpinning_answer, after_unpinning, bound_answer, after_bound}
 use Rattle.watch.specs.declared.call.Answer.{Answer}
-use Rattle.watch.specs.declared.call.Answer.TheVariants.{Done, Refused, Judged, NotJudged}
+use Rattle.watch.specs.declared.call.Answer.TheVariants.{Change, Judgement}
 use Rattle.watch.specs.declared.call.Call.{Call}
 use Rattle.watch.specs.declared.call.Call.TheVariants.{Feed, Pin, Unpin, Bound, Judge}
 
@@ -20,8 +20,7 @@ step k l (Judge sheet) = l
 
 -- the ledger after a list of calls
 abbrev pub steps : {C : Type 0} → Kind C → Ledger C → List (Call C) → Ledger C
-steps k l [] = l
-steps k l (call ∷ calls) = steps k (step k l call) calls
+steps k l calls = fold (step k) l calls
 
 -- an accepted call that tells nothing more
 abbrev pub quiet : {X : Type 0} → Result (Unit {0}) ℕ → Result (Option X) ℕ
@@ -43,7 +42,5 @@ ledger_answer k l (Judge sheet) = telling (judge_answer k (standing l) l.bound (
 
 -- the same of an answer that was given: a verdict by its number and values, a refusal by its number
 abbrev pub answer_told : {C : Type 0} → Answer C → Result (Option (ℕ × List C)) ℕ
-answer_told Done = Ok None
-answer_told (Refused e) = Err (refusal_number e)
-answer_told (Judged v sheet) = Ok (Some (verdict_told v))
-answer_told (NotJudged e sheet) = Err (refusal_number e)
+answer_told (Change r) = quiet (answered r)
+answer_told (Judgement r sheet) = telling (told verdict_told r)

@@ -1,39 +1,36 @@
 -- A whole list of calls on one watch: each answer is right by the ledger that the calls before it leave.
-use Rattle.std.specs.Prelude.{◌≡◌, true, false, List, [], ◌∷◌, Ok}
+use Rattle.std.specs.Prelude.{◌≡◌, true, false, List, [], ◌∷◌, IfOk}
 use Rattle.costs.specs.Kind.{Kind}
 use Rattle.tables.specs.Table.{Table}
 use Rattle.tables.specs.Refusals.{refusal_number}
+use Rattle.tables.specs.declared.refusal.Refusal.{Refusal}
 use Rattle.judge.specs.Judging.{Left, Exact}
 use Rattle.judge.specs.Sheets.{sheet_lists, lengths}
 use Rattle.judge.specs.declared.sheet.Sheet.{Sheet}
 use Rattle.watch.specs.Calls.{step, ledger_answer, answer_told}
 use Rattle.watch.specs.Ledger.{Ledger, standing, is_bound, opened}
 use Rattle.watch.specs.declared.call.Answer.{Answer}
-use Rattle.watch.specs.declared.call.Answer.TheVariants.{Done, Refused, Judged, NotJudged}
+use Rattle.watch.specs.declared.call.Answer.TheVariants.{Change, Judgement}
 use Rattle.watch.specs.declared.call.Call.{Call}
 use Rattle.watch.specs.declared.call.Call.TheVariants.{Feed, Pin, Unpin, Bound, Judge}
-use Rattle.watch.specs.declared.conduct.ConductError.{ConductError}
-use Rattle.watch.specs.declared.conduct.ConductError.TheVariants.{Refused as NotOpened, Memory}
+use Rattle.watch.specs.declared.failure.Failure.{Failure}
+use Rattle.watch.specs.declared.failure.Failure.TheVariants.{Refused, Memory}
 
 -- an answer that hands no lists back
 abbrev pub Bare : {C : Type 0} → Answer C → Type 0
-Bare Done = Unit {0}
-Bare (Refused e) = Unit {0}
-Bare (Judged v sheet) = ⊥
-Bare (NotJudged e sheet) = ⊥
+Bare (Change r) = Unit {0}
+Bare (Judgement r sheet) = ⊥
 
--- an answer to a judge hands its lists back. Accepted, it says 'within' exactly when some allowed renumbering costs at
--- most the bound and 'none' exactly when none is allowed, and the lists hold a least renumbering with prices that prove
--- it least, or marks of a set of events that proves that there is none, in lists as long as they were; refused, they
--- hold what they held
+-- an answer to a judge hands its lists back, as long as they were. Accepted, it says 'within' exactly when some allowed
+-- renumbering costs at most the bound and 'none' exactly when none is allowed, and the lists hold a least renumbering
+-- with prices that prove it least, or marks of a set of events that proves that there is none; refused, they hold what
+-- they held
 abbrev pub Handed : {C : Type 0} → Kind C → Ledger C → Sheet C → Answer C → Type 0
-Handed k l before Done = ⊥
-Handed k l before (Refused e) = ⊥
-Handed k l before (Judged v after) =
-    Exact k (standing l) l.bound v
-    × Left k (standing l) (sheet_lists before) (Ok v) (sheet_lists after)
+Handed k l before (Change r) = ⊥
+Handed k l before (Judgement r after) =
+    IfOk r (λ v. Exact k (standing l) l.bound v)
+    × Left k (standing l) (sheet_lists before) r (sheet_lists after)
     × (lengths (sheet_lists after) ≡ lengths (sheet_lists before))
-Handed k l before (NotJudged e after) = sheet_lists after ≡ sheet_lists before
 
 -- what an answer hands back
 abbrev pub Returned : {C : Type 0} → Kind C → Ledger C → Call C → Answer C → Type 0
@@ -61,6 +58,6 @@ pub record Conducted {C : Type 0} (k : Kind C) (t : Table C) (bound : C) (calls 
   pub run : Run k (opened t bound) calls answers
 
 -- why none was: the bound is refused with 9, or there was no memory
-abbrev pub NotConducted : {C : Type 0} → Kind C → C → ConductError → Type 0
-NotConducted k bound (NotOpened e) = (is_bound k bound ≡ false) × (refusal_number e ≡ 9)
+abbrev pub NotConducted : {C : Type 0} → Kind C → C → Failure Refusal → Type 0
+NotConducted k bound (Refused e) = (is_bound k bound ≡ false) × (refusal_number e ≡ 9)
 NotConducted k bound Memory = Unit {0}

@@ -1,5 +1,5 @@
 -- Walking a log from a position to the first hit: what is answered, the ledger after it, and what the lists then hold.
-use Rattle.std.specs.Prelude.{◌≡◌, ℕ, ◌+◌, ◌-◌, cond, ◌&&◌, List, [], ◌∷◌, length, take, drop, Some, None, Ok, Err, Option, Result, nat_le}
+use Rattle.std.specs.Prelude.{◌≡◌, ℕ, ◌+◌, ◌-◌, cond, ◌&&◌, List, [], ◌∷◌, length, take, drop, fold, Some, None, Ok, Err, Option, Result, nat_le}
 use Rattle.costs.specs.Kind.{Kind}
 use Rattle.tables.specs.Table.{within, pair_at}
 use Rattle.judge.specs.Judging.{Lists, has_room, Left}
@@ -10,26 +10,18 @@ use Rattle.watch.specs.Ledger.{Ledger, standing, after_feed}
 use Rattle.watch.specs.declared.walk.Next.{Next}
 use Rattle.watch.specs.declared.walk.NextRefusal.{NextRefusal}
 use Rattle.watch.specs.declared.walk.NextRefusal.TheVariants.{Position, ListShort, Event}
-use Rattle.watch.specs.declared.walk.Outcome.{Outcome}
-use Rattle.watch.specs.declared.walk.Outcome.TheVariants.{NotFull, Hit, Miss, Blocked}
-
--- a verdict as what an event led to
-abbrev pub led_to : {C : Type 0} → Verdict C → Outcome C
-led_to (Inside c) = Hit c
-led_to (Over c) = Miss c
-led_to Never = Blocked
 
 -- what the window that stands leads to: nothing where it is not full, otherwise the verdict on it
-abbrev pub outcome : {C : Type 0} → Kind C → Ledger C → Outcome C
+abbrev pub outcome : {C : Type 0} → Kind C → Ledger C → Option (Verdict C)
 outcome k l =
-    cond (nat_le l.table.places (length l.table.window)) (led_to (judged k (pair_at (standing l)) l.table.size l.bound)) NotFull
+    cond (nat_le l.table.places (length l.table.window)) (Some (judged k (pair_at (standing l)) l.table.size l.bound)) None
 
 -- an event and what it led to, and then the rest of the walk: a hit ends it, otherwise its window is counted
-abbrev pub onward : {C : Type 0} → Outcome C → Next C → Next C
-onward NotFull n = record { fed = n.fed + 1; hit = n.hit; counts = n.counts }
-onward (Hit c) n = record { fed = 1; hit = Some c; counts = (1, 0, 0) }
-onward (Miss c) n = record { fed = n.fed + 1; hit = n.hit; counts = (n.counts.0, n.counts.1 + 1, n.counts.2) }
-onward Blocked n = record { fed = n.fed + 1; hit = n.hit; counts = (n.counts.0, n.counts.1, n.counts.2 + 1) }
+abbrev pub onward : {C : Type 0} → Option (Verdict C) → Next C → Next C
+onward None n = record { fed = n.fed + 1; hit = n.hit; counts = n.counts }
+onward (Some (Inside c)) n = record { fed = 1; hit = Some c; counts = (1, 0, 0) }
+onward (Some (Over c)) n = record { fed = n.fed + 1; hit = n.hit; counts = (n.counts.0, n.counts.1 + 1, n.counts.2) }
+onward (Some Never) n = record { fed = n.fed + 1; hit = n.hit; counts = (n.counts.0, n.counts.1, n.counts.2 + 1) }
 
 -- feeding the events one by one up to the first hit
 abbrev pub walk : {C : Type 0} → Kind C → Ledger C → List ℕ → Next C
@@ -72,8 +64,7 @@ next_told (Err e) = Err (next_refusal e)
 
 -- the ledger after feeding a list of events
 abbrev pub after_feeds : {C : Type 0} → Ledger C → List ℕ → Ledger C
-after_feeds l [] = l
-after_feeds l (e ∷ es) = after_feeds (after_feed l e) es
+after_feeds l es = fold after_feed l es
 
 -- the ledger after next: as many events are fed as it says, none where it is refused
 abbrev pub after_next : {C : Type 0} → Ledger C → List ℕ → ℕ → Result (Next C) NextRefusal → Ledger C
@@ -81,18 +72,16 @@ after_next l log p (Ok n) = after_feeds l (take n.fed (log_from p log))
 after_next l log p (Err e) = l
 
 -- what the lists hold after one event, by what it led to
-abbrev pub LeftBy : {C : Type 0} → Kind C → Ledger C → Outcome C → Lists C → Lists C → Type 0
-LeftBy k l NotFull before after = after ≡ before
-LeftBy k l (Hit c) before after = Left k (standing l) before (Ok (Inside c)) after
-LeftBy k l (Miss c) before after = Left k (standing l) before (Ok (Over c)) after
-LeftBy k l Blocked before after = Left k (standing l) before (Ok Never) after
+abbrev pub LeftBy : {C : Type 0} → Kind C → Ledger C → Option (Verdict C) → Lists C → Lists C → Type 0
+LeftBy k l None before after = after ≡ before
+LeftBy k l (Some v) before after = Left k (standing l) before (Ok v) after
 
 -- one fact where a hit ends the walk, another where it goes on
-abbrev pub EndsOr : {C : Type 0} → Outcome C → Type 0 → Type 0 → Type 0
-EndsOr NotFull ends goes = goes
-EndsOr (Hit c) ends goes = ends
-EndsOr (Miss c) ends goes = goes
-EndsOr Blocked ends goes = goes
+abbrev pub EndsOr : {C : Type 0} → Option (Verdict C) → Type 0 → Type 0 → Type 0
+EndsOr None ends goes = goes
+EndsOr (Some (Inside c)) ends goes = ends
+EndsOr (Some (Over c)) ends goes = goes
+EndsOr (Some Never) ends goes = goes
 
 -- the lists hold what the judges of the walk left, one after another
 abbrev pub Walked : {C : Type 0} → Kind C → Ledger C → List ℕ → Lists C → Lists C → Type 0

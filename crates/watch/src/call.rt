@@ -13,11 +13,9 @@ pub enum Call<C> {
     Judge(Sheet<C>),
 }
 
-// What a call answers. A judge hands its lists back, a refused one too.
+// What a call answers: a judge also hands its lists back, a refused one too.
 #[derive(Drop)]
 pub enum Answer<C> {
-    Done,
-    Refused(Refusal),
-    Judged(Verdict<C>, Sheet<C>),
-    NotJudged(Refusal, Sheet<C>),
+    Change(Result<(), Refusal>),
+    Judgement(Result<Verdict<C>, Refusal>, Sheet<C>),
 }

@@ -24,11 +24,14 @@ use tables::refusal::Refusal;
 pub mod call;
 pub mod cases;
 pub mod conduct;
+pub mod failure;
 pub mod walk;
 
 // The largest span of a bound.
 pub const BOUND_LIMIT: u64 = 1_000_000;
 
+// Clauses name its ledger by `ledger_of`: an `impl Model` was tried, and is refused, since a model's value must be data
+// and a ledger holds functions (what each pair costs, and the pin of each event).
 #[derive(Drop)]
 pub struct Watch<T: TraceTable> {
     table: Pins<T>,
@@ -128,13 +131,7 @@ impl<T: TraceTable> Watch<T> {
         ensures lengths { lengths (sheet_lists sheet.new) ≡ lengths (sheet_lists sheet.old) }
         ensures after { ledger_of T.TraceTable.means self.new ≡ ledger_of T.TraceTable.means self.old }
     {
-        self.judge(
-            &mut sheet.numbers,
-            &mut sheet.event_prices,
-            &mut sheet.number_prices,
-            &mut sheet.marks,
-            &mut sheet.work,
-        )
+        self.judge.judge_sheet(&self.table, &self.bound, sheet)
     }
 }
 

@@ -1,10 +1,11 @@
 // From hit to hit in a log.
-ghost use Rattle.std.specs.Prelude.{◌≡◌, ◌+◌, ◌-◌, ◌^◌, ◌<◌, ◌≤◌, length, take};
+ghost use Rattle.std.specs.Prelude.{◌≡◌, ◌+◌, ◌-◌, ◌^◌, ◌<◌, ◌≤◌, not, length, take, position};
+ghost use Rattle.tables.specs.Table.{within};
 ghost use Rattle.judge.specs.Judging.{lists, Room};
 ghost use Rattle.judge.specs.Sheets.{sheet_lists, lengths};
 ghost use Rattle.watch.specs.Ledger.{after_feed};
 ghost use Rattle.watch.specs.Meaning.{ledger_of};
-ghost use Rattle.watch.specs.Walking.{led_to, outcome, walk as walk_of, log_from, first_outside, after_feeds, LeftBy, Walked, next_told, next_answer, after_next, NextLeft};
+ghost use Rattle.watch.specs.Walking.{outcome, walk as walk_of, log_from, after_feeds, LeftBy, Walked, next_told, next_answer, after_next, NextLeft};
 
 use crate::Watch;
 use judge::judging::is_roomy;
@@ -13,7 +14,7 @@ use judge::verdict::Verdict;
 use tables::{TraceTable, is_within};
 
 // What next answers: how many events it fed, the cost of the hit if it found one, and how many windows lay within the
-// bound, over it, and had no renumbering.
+// bound, over it, and had no renumbering: three counts as a tuple, here and in a report, as the rules answer them.
 #[derive(Clone, Copy)]
 pub struct Next<C> {
     pub fed: usize,
@@ -30,15 +31,6 @@ pub enum NextRefusal {
     ListShort,
     // 5: the event at this position is 0 or above the size
     Event(usize),
-}
-
-// What one event led to.
-#[derive(Clone, Copy)]
-pub enum Outcome<C> {
-    NotFull,
-    Hit(C),
-    Miss(C),
-    Blocked,
 }
 
 impl<T: TraceTable> Watch<T> {
@@ -73,8 +65,8 @@ impl<T: TraceTable> Watch<T> {
             return Err(NextRefusal::ListShort);
         }
         let events = events_from(log, position);
-        match first_outside(size, position, events) {
-            Some(outside) => Err(NextRefusal::Event(outside)),
+        match first_outside(size, events) {
+            Some(i) => Err(NextRefusal::Event(position + i)),
             None => Ok(self.walk(events, numbers, event_prices, number_prices, marks, work)),
         }
     }
@@ -103,6 +95,8 @@ impl<T: TraceTable> Watch<T> {
     }
 
     // Feeds the events one by one and judges each full window, up to the first hit.
+    // The five lists stay apart here too: a struct of them would want five clauses more of each function, that each of
+    // its `&mut` is still the caller's.
     fn walk(
         &mut self,
         events: &[u32],
@@ -119,18 +113,18 @@ impl<T: TraceTable> Watch<T> {
     {
         let mut over = 0;
         let mut none = 0;
-        for i in 0..events.len() {
-            match self.judge_after(events[i], numbers, event_prices, number_prices, marks, work) {
-                Outcome::NotFull => {}
-                Outcome::Hit(cost) => {
+        for (i, event) in events.iter().enumerate() {
+            match self.judge_after(*event, numbers, event_prices, number_prices, marks, work) {
+                None => {}
+                Some(Verdict::Within(cost)) => {
                     return Next {
                         fed: i + 1,
                         hit: Some(cost),
                         counts: (1, over, none),
                     };
                 }
-                Outcome::Miss(_cost) => over += 1,
-                Outcome::Blocked => none += 1,
+                Some(Verdict::Over(_cost)) => over += 1,
+                Some(Verdict::None) => none += 1,
             }
         }
         Next {
@@ -140,7 +134,7 @@ impl<T: TraceTable> Watch<T> {
         }
     }
 
-    // Feeds one event, and judges the window if it is then full.
+    // Feeds one event, and judges the window if it is then full: none where it is not.
     fn judge_after(
         &mut self,
         event: u32,
@@ -149,27 +143,15 @@ impl<T: TraceTable> Watch<T> {
         number_prices: &mut [T::Value],
         marks: &mut [u32],
         work: &mut [T::Value],
-    ) -> Outcome<T::Value>
+    ) -> Option<Verdict<T::Value>>
         requires room { Room (ledger_of T.TraceTable.means self.old).table.size (lists numbers.old event_prices.old number_prices.old marks.old work.old) }
         ensures outcome { result ≡ outcome T.Value.Cost.kind (after_feed (ledger_of T.TraceTable.means self.old) event) }
         ensures after { ledger_of T.TraceTable.means self.new ≡ after_feed (ledger_of T.TraceTable.means self.old) event }
         ensures left { LeftBy T.Value.Cost.kind (after_feed (ledger_of T.TraceTable.means self.old) event) result (lists numbers.old event_prices.old number_prices.old marks.old work.old) (lists numbers.new event_prices.new number_prices.new marks.new work.new) }
     {
         let _ = self.feed(event);
-        match self.judge(numbers, event_prices, number_prices, marks, work) {
-            Ok(verdict) => outcome_of(verdict),
-            Err(_refusal) => Outcome::NotFull,
-        }
-    }
-}
-
-fn outcome_of<C>(verdict: Verdict<C>) -> Outcome<C>
-    ensures { result ≡ led_to verdict }
-{
-    match verdict {
-        Verdict::Within(cost) => Outcome::Hit(cost),
-        Verdict::Over(cost) => Outcome::Miss(cost),
-        Verdict::None => Outcome::Blocked,
+        self.judge(numbers, event_prices, number_prices, marks, work)
+            .ok()
     }
 }
 
@@ -181,15 +163,9 @@ fn events_from(log: &[u32], position: usize) -> &[u32]
     &log[position - 1..]
 }
 
-// The first position at which an event is 0 or above the size, the first event being at the given one.
-fn first_outside(size: u32, position: usize, events: &[u32]) -> Option<usize>
-    requires { position + length events.now < 2 ^ 64 }
-    ensures { result ≡ first_outside size position events.now }
+// Where the first event is that is 0 or above the size, counted from 0.
+fn first_outside(size: u32, events: &[u32]) -> Option<usize>
+    ensures { result ≡ position (λ e. not (within size e)) events.now }
 {
-    for i in 0..events.len() {
-        if !is_within(size, events[i]) {
-            return Some(position + i);
-        }
-    }
-    None
+    events.iter().position(|event| !is_within(size, *event))
 }

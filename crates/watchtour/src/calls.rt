@@ -2,18 +2,19 @@
 ghost use Rattle.std.specs.Prelude.{◌≡◌, [], IfOk};
 ghost use Rattle.watchtour.specs.Steps.{StandsFor, AllStand};
 
-use crate::verdicts::{print_refused, print_verdict};
-use crate::{SIZE, TRACE};
 use anyhow::anyhow;
 use costs::plain::Plain;
 use judge::sheet::Sheet;
+use shown::verdicts::{Judged, Told};
+use shown::worked::{SIZE, TRACE, worked_table};
 use std::alloc::{AllocError, Global};
+use std::fmt;
 use tables::pricing::Difference;
-use tables::summed::Summed;
 use watch::call::{Answer, Call};
 use watch::conduct::conduct;
 
-// A call to come. A judge with a short list has no room for marks.
+// A call to come. It is no `Call`, which owns the lists of a judge and cannot stand in a constant. A judge with a short list
+// has no room for marks.
 #[derive(Clone, Copy)]
 enum Step {
     Feed(u32),
@@ -51,19 +52,17 @@ const STEPS: [Step; 18] = [
 // Conducts the steps on a watch with bound 6, and prints them with their answers.
 pub fn conduct_steps(rt: &HostRuntime) -> anyhow::Result<()> {
     println!(rt; "calls on one watch: difference, delta 1, size {SIZE}, trace {TRACE:?}, bound 6")?;
-    let Ok(table) = Summed::new(Difference { delta: 1 }, SIZE, &TRACE) else {
-        return Err(anyhow!("the table is refused"));
-    };
+    let table = worked_table(Difference { delta: 1 })?;
     let calls = make_calls(rt.alloc(), &STEPS)?;
-    let Ok(answers) = conduct(rt.alloc(), table, Plain::of(6), calls) else {
+    let Ok(answers) = conduct(rt.alloc(), table, Plain::from(6), calls) else {
         return Err(anyhow!("the calls are not carried out"));
     };
-    print_answers(rt, &answers)
+    print_answers(rt, answers)
 }
 
-fn print_answers(rt: &impl Print, answers: &[Answer<Plain>]) -> anyhow::Result<()> {
-    for (step, answer) in STEPS.iter().zip(answers.iter()) {
-        print_step(rt, *step)?;
+fn print_answers(rt: &impl Print, answers: Vec<Answer<Plain>>) -> anyhow::Result<()> {
+    for (step, answer) in STEPS.iter().zip(answers) {
+        print!(rt; "{step}:")?;
         print_answer(rt, answer)?;
     }
     println!(rt; "")?;
@@ -89,7 +88,7 @@ fn make_call(heap: Global, step: Step) -> Result<Call<Plain>, AllocError>
         Step::Feed(event) => Ok(Call::Feed(event)),
         Step::Pin { event, number } => Ok(Call::Pin { event, number }),
         Step::Unpin(event) => Ok(Call::Unpin(event)),
-        Step::Bound(bound) => Ok(Call::Bound(Plain::of(bound))),
+        Step::Bound(bound) => Ok(Call::Bound(Plain::from(bound))),
         Step::Judge => Ok(Call::Judge(Sheet::new(heap)?)),
         Step::JudgeShort => Ok(Call::Judge(short_sheet(heap)?)),
     }
@@ -104,26 +103,30 @@ fn short_sheet(heap: Global) -> Result<Sheet<Plain>, AllocError>
     Ok(sheet)
 }
 
-fn print_step(rt: &impl Print, step: Step) -> anyhow::Result<()> {
-    match step {
-        Step::Feed(event) => print!(rt; "feed {event}:")?,
-        Step::Pin { event, number } => print!(rt; "pin {event} to {number}:")?,
-        Step::Unpin(event) => print!(rt; "unpin {event}:")?,
-        Step::Bound(bound) => print!(rt; "bound {bound}:")?,
-        Step::Judge => print!(rt; "judge:")?,
-        Step::JudgeShort => print!(rt; "judge with no room for marks:")?,
+impl fmt::Display for Step {
+    fn fmt<W: fmt::Write>(&self, f: &mut fmt::Formatter<W>) -> fmt::Result {
+        match *self {
+            Step::Feed(event) => write!(f, "feed {event}"),
+            Step::Pin { event, number } => write!(f, "pin {event} to {number}"),
+            Step::Unpin(event) => write!(f, "unpin {event}"),
+            Step::Bound(bound) => write!(f, "bound {bound}"),
+            Step::Judge => write!(f, "judge"),
+            Step::JudgeShort => write!(f, "judge with no room for marks"),
+        }
     }
-    Ok(())
 }
 
-fn print_answer(rt: &impl Print, answer: &Answer<Plain>) -> anyhow::Result<()> {
+fn print_answer(rt: &impl Print, answer: Answer<Plain>) -> anyhow::Result<()> {
     match answer {
-        Answer::Done => {
-            println!(rt; " done")?;
-            Ok(())
+        Answer::Change(told) => println!(rt; "{}", Told(told))?,
+        Answer::Judgement(told, sheet) => {
+            let judged = Judged {
+                answer: told,
+                size: SIZE as usize,
+                sheet,
+            };
+            println!(rt; "{judged}")?
         }
-        Answer::Refused(refusal) => print_refused(rt, *refusal),
-        Answer::Judged(verdict, sheet) => print_verdict(rt, *verdict, SIZE as usize, sheet),
-        Answer::NotJudged(refusal, _) => print_refused(rt, *refusal),
     }
+    Ok(())
 }

@@ -1,19 +1,13 @@
 // Walks a short log from hit to hit.
-ghost use Rattle.std.specs.Prelude.{◌≡◌};
-ghost use Rattle.judge.specs.Sheets.{sheet_lists};
-ghost use Rattle.watch.specs.Meaning.{ledger_of};
-ghost use Rattle.watch.specs.Walking.{next_told, next_answer};
-
-use crate::verdicts::print_numbers;
 use anyhow::anyhow;
 use costs::plain::Plain;
 use judge::judging::Judge;
 use judge::sheet::Sheet;
+use shown::lists::{Numbers, first};
 use tables::TraceTable;
 use tables::pricing::Mismatch;
 use tables::summed::Summed;
 use watch::Watch;
-use watch::walk::{Next, NextRefusal};
 
 const SIZE: u32 = 2;
 
@@ -27,14 +21,15 @@ pub fn walk_log(rt: &HostRuntime) -> anyhow::Result<()> {
         return Err(anyhow!("the table is refused"));
     };
     let judge = Judge::new(rt.alloc())?;
-    let Ok(mut watch) = Watch::open(judge, table, Plain::of(1)) else {
+    let Ok(mut watch) = Watch::open(judge, table, Plain::from(1)) else {
         return Err(anyhow!("the watch is not opened"));
     };
     let mut sheet = Sheet::new(rt.alloc())?;
     print_hits(rt, &mut watch, &mut sheet)
 }
 
-// Goes from hit to hit up to the end of the log. Each hit is at least one event further on.
+// Goes from hit to hit up to the end of the log. Each hit is at least one event further on, so the turns are bounded; no
+// iterator gives them, since how far one goes is known only from its own answer.
 fn print_hits<T: TraceTable<Value = Plain>>(
     rt: &impl Print,
     watch: &mut Watch<T>,
@@ -43,7 +38,7 @@ fn print_hits<T: TraceTable<Value = Plain>>(
     let mut position = 1usize;
     let mut counts = (0usize, 0usize, 0usize);
     for _ in 0..LOG.len() + 1 {
-        let Ok(next) = next_hit(watch, &LOG, position, sheet) else {
+        let Ok(next) = watch.next_sheet(&LOG, position, sheet) else {
             return Err(anyhow!("the walk is refused"));
         };
         position = position.saturating_add(next.fed);
@@ -60,29 +55,10 @@ fn print_hits<T: TraceTable<Value = Plain>>(
     Ok(())
 }
 
-// The next hit, with five lists that are owned.
-fn next_hit<T: TraceTable>(
-    watch: &mut Watch<T>,
-    log: &[u32],
-    position: usize,
-    sheet: &mut Sheet<T::Value>,
-) -> Result<Next<T::Value>, NextRefusal>
-    ensures { next_told result ≡ next_answer T.Value.Cost.kind (ledger_of T.TraceTable.means watch.old) log.now position (sheet_lists sheet.old) }
-{
-    watch.next(
-        log,
-        position,
-        &mut sheet.numbers,
-        &mut sheet.event_prices,
-        &mut sheet.number_prices,
-        &mut sheet.marks,
-        &mut sheet.work,
-    )
-}
-
 // A hit: where its window begins, its cost, and the numbers of its renumbering. The position is the one after it.
 fn print_hit(rt: &impl Print, position: usize, cost: Plain, numbers: &[u32]) -> anyhow::Result<()> {
-    let first = position.saturating_sub(TRACE.len());
-    print!(rt; "hit at {first}: cost {cost}, numbers")?;
-    print_numbers(rt, numbers, SIZE as usize)
+    let begin = position.saturating_sub(TRACE.len());
+    let numbers = Numbers(first(numbers, SIZE as usize));
+    println!(rt; "hit at {begin}: cost {cost}, numbers{numbers}")?;
+    Ok(())
 }

@@ -5,11 +5,12 @@ ghost use Rattle.costs.specs.Plain.{opposite as opposed, plain_kind, plain_of, p
 ghost use Rattle.costs.specs.PlainLaws.{plain_laws};
 
 use super::Plain;
-use crate::{Cost, SPAN_LIMIT};
+use crate::{Cost, SPAN_LIMIT, formed};
 use std::fmt;
 
 impl Plain {
-    // The cost `value`, or None where its absolute value is above the limit.
+    // The cost `value`, or None where its absolute value is above the limit; an Option, as of NonZeroU32::new, since
+    // there is no more to say of a refusal.
     pub fn new(value: i64) -> Option<Plain>
         ensures { result ≡ plain_from value }
     {
@@ -17,15 +18,6 @@ impl Plain {
             Some(Plain { value })
         } else {
             None
-        }
-    }
-
-    // A count as a cost.
-    pub fn of(count: u32) -> Plain
-        ensures { result ≡ plain_of count }
-    {
-        Plain {
-            value: i64::from(count),
         }
     }
 
@@ -43,18 +35,28 @@ impl Plain {
     }
 }
 
+// A count as a cost.
+impl From<u32> for Plain {
+    ghost from_gives = { λ n cost. cost ≡ plain_of n };
+
+    fn from(count: u32) -> Plain {
+        Plain {
+            value: i64::from(count),
+        }
+    }
+}
+
 impl Cost for Plain {
     ghost kind = { plain_kind };
 
     ghost laws = { plain_laws };
 
     fn zero() -> Plain {
-        Plain::of(0)
+        Plain::from(0)
     }
 
     fn plus(self, other: Plain) -> Plain {
-        // both spans are at most the limit, so their total fits
-        if self.value.unsigned_abs() + other.value.unsigned_abs() > SPAN_LIMIT {
+        if !formed(self.span(), other.span()) {
             return Self::zero();
         }
         Plain {

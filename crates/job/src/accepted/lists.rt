@@ -1,21 +1,24 @@
 // The lists of a job.
-ghost use Rattle.std.specs.Prelude.{◌≡◌, ◌≤◌, take};
-ghost use Rattle.job.specs.Limits.{max_log};
+ghost use Rattle.std.specs.Prelude.{◌≡◌, ◌*◌, ◌≤◌, length};
+ghost use Rattle.tables.specs.Limits.{max_places};
+ghost use Rattle.job.specs.Limits.{max_pin_numbers, max_log};
 
 use super::{Job, Pin};
 
 impl Job {
     // The pins, in the order of the text.
     pub fn pins(&self) -> &[Pin]
-        ensures { result.now ≡ take self.now.pairs self.now.pins }
+        ensures value { result.now ≡ self.now.pins.items }
+        ensures few { 2 * length result.now ≤ max_pin_numbers }
     {
-        &self.pins[0..self.pairs]
+        self.pins.as_slice()
     }
 
     pub fn trace(&self) -> &[u32]
-        ensures { result.now ≡ take self.now.places self.now.trace }
+        ensures value { result.now ≡ self.now.trace.items }
+        ensures short { length result.now ≤ max_places }
     {
-        &self.trace[0..self.places]
+        self.trace.as_slice()
     }
 
     // How many events the log has, which stand at the front of the list that was lent for it.

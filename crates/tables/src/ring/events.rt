@@ -27,6 +27,7 @@ impl Ring {
         self.places
     }
 
+    #[tactic(auto, using(crate::specs::Rings::events_length))]
     pub(crate) fn len(&self) -> usize
         ensures value { result ≡ length (ring_events self.now) }
         ensures few { result ≤ self.now.places }
@@ -35,37 +36,41 @@ impl Ring {
         held
     }
 
-    // The event at place j, counted from 0, the oldest first; 0 where no event stands there.
+    // The event at place j, counted from 0, the oldest first.
+    #[tactic(auto, using(crate::specs::Rings::events_length, crate::specs::Rings::events_at))]
     pub(crate) fn event(&self, j: usize) -> u32
+        requires { j < length (ring_events self.now) }
         ensures { result ≡ slice_index (ring_events self.now) j }
     {
-        if j >= self.count {
-            return 0;
-        }
-        self.slots[slot_of(self.places, self.start, j)]
+        self.slots[self.slot_of(j)]
     }
 
     // One event more; where the ring is full, the oldest one gives way.
+    #[tactic(auto, using(crate::specs::Rings::pushed, crate::specs::Rings::pushed_out))]
     pub(crate) fn push(&mut self, event: u32)
         ensures places { self.new.places ≡ self.old.places }
         ensures events { ring_events self.new ≡ last self.old.places (ring_events self.old ++ (event ∷ [])) }
     {
-        let place = slot_of(self.places, self.start, self.count);
+        let place = self.slot_of(self.count);
         self.slots[place] = event;
         if self.count < self.places {
             self.count += 1;
         } else {
-            self.start = slot_of(self.places, self.start, 1);
+            self.start = self.slot_of(1);
         }
     }
-}
 
-// Where event j stands in a ring that starts at `start`.
-fn slot_of(places: usize, start: usize, j: usize) -> usize
-    requires { (start < places) × ((j ≤ places) × (places ≤ max_places)) }
-    ensures value { result ≡ slot places start j }
-    ensures below { result < places }
-{
-    let at = start + j;
-    if at < places { at } else { at - places }
+    // Where event j stands.
+    fn slot_of(&self, j: usize) -> usize
+        requires { j ≤ self.now.places }
+        ensures value { result ≡ slot self.now.places self.now.start j }
+        ensures below { result < self.now.places }
+    {
+        let at = self.start + j;
+        if at < self.places {
+            at
+        } else {
+            at - self.places
+        }
+    }
 }

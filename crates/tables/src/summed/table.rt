@@ -1,6 +1,6 @@
 // The summing table as a trace table, one text for every pricing.
 ghost use Rattle.std.specs.Prelude.{◌≡◌, ℕ, ◌<◌, ◌≤◌, length, take};
-ghost use Rattle.tables.specs.Limits.{max_size, max_places};
+ghost use Rattle.tables.specs.Limits.{max_size};
 ghost use Rattle.tables.specs.Refusals.{told};
 ghost use Rattle.tables.specs.Summing.{add_grade, all_within, make_answer};
 ghost use Rattle.tables.specs.Summed.{summed_table};
@@ -12,7 +12,8 @@ use crate::grade::Grade;
 use crate::pricing::Pricing;
 use crate::refusal::Refusal;
 use crate::ring::Ring;
-use crate::{MAX_PLACES, MAX_SIZE, TraceTable, is_within};
+use crate::{MAX_SIZE, TraceTable, is_within};
+use arrayvec::ArrayVec;
 use costs::Cost;
 
 impl<P: Pricing> TraceTable for Summed<P> {
@@ -42,7 +43,9 @@ impl<P: Pricing> TraceTable for Summed<P> {
         Ok(())
     }
 
-    // The sum over the places that hold the event, from the newest to the oldest.
+    // The sum over the places that hold the event, from the newest to the oldest. Here and below a place has an index,
+    // since the ring is no slice that could be walked over beside the trace; and the walks are three, since what they write
+    // differs, and a walk in common would take a closure that writes, of which a proof knows nothing.
     fn pair(&self, event: u32, number: u32) -> Grade<P::Value> {
         if !is_within(self.size, event) || !is_within(self.size, number) {
             return Grade::Closed;
@@ -89,8 +92,8 @@ impl<P: Pricing> TraceTable for Summed<P> {
 fn start_row<C: Cost>(open: usize, row: &mut [Grade<C>])
     ensures { Started C.Cost.kind «open» (length row.old) row.new }
 {
-    for c in 0..row.len() {
-        row[c] = if c < open {
+    for (c, grade) in row.iter_mut().enumerate() {
+        *grade = if c < open {
             Grade::Open(C::zero())
         } else {
             Grade::Closed
@@ -103,9 +106,9 @@ fn add_place<P: Pricing>(pricing: &P, size: usize, trace: u32, row: &mut [Grade<
     requires { size ≤ max_size }
     ensures { Placed P.Value.Cost.kind (P.Pricing.prices pricing.now trace) size row.old row.new }
 {
-    for c in 0..size {
-        if c < row.len() {
-            row[c] = plus_place(pricing, trace, c as u32 + 1, row[c]);
+    for (c, sum) in row.iter_mut().enumerate() {
+        if c < size {
+            *sum = plus_place(pricing, trace, c as u32 + 1, *sum);
         }
     }
 }
@@ -136,8 +139,8 @@ impl<P: Pricing + Drop> Summed<P> {
         if !is_within(MAX_SIZE, size) {
             return Err(Refusal::Size);
         }
-        let places = trace.len();
-        if places == 0 || places > MAX_PLACES || !are_within(size, trace) {
+        let trace = ArrayVec::try_from(trace).map_err(|_too_long| Refusal::Trace)?;
+        if trace.is_empty() || !are_within(size, &trace) {
             return Err(Refusal::Trace);
         }
         if !pricing.is_usable() {
@@ -146,8 +149,8 @@ impl<P: Pricing + Drop> Summed<P> {
         Ok(Summed {
             pricing,
             size,
-            trace: padded(trace),
-            window: Ring::new(places),
+            window: Ring::new(trace.len()),
+            trace,
         })
     }
 }
@@ -156,23 +159,5 @@ impl<P: Pricing + Drop> Summed<P> {
 fn are_within(size: u32, numbers: &[u32]) -> bool
     ensures { result ≡ all_within size numbers.now }
 {
-    for n in numbers {
-        if !is_within(size, *n) {
-            return false;
-        }
-    }
-    true
-}
-
-// The list at the start of an array.
-fn padded(list: &[u32]) -> [u32; MAX_PLACES]
-    requires { length list.now ≤ max_places }
-    ensures front { take (length list.now) result ≡ list.now }
-    ensures whole { length result ≡ max_places }
-{
-    let mut all = [0; MAX_PLACES];
-    for i in 0..list.len() {
-        all[i] = list[i];
-    }
-    all
+    numbers.iter().all(|n| is_within(size, *n))
 }

@@ -1,5 +1,6 @@
+use Rattle.std.proofs.Common.{rules}
 use Rattle.std.proofs.lemmas.Str.{IsUtf8-from_ascii}
 use Rattle.job.proofs.tokens.ascii.Goals as goal
 
-pub unreachable-requires : goal.unreachable-requires
-unreachable-requires c = c.in-Err.ensures.cases.0 (IsUtf8-from_ascii c.args.run.now c.requires)
+pub unwrap-requires : goal.unwrap-requires
+unwrap-requires c = search (rules, IsUtf8-from_ascii)

@@ -1,5 +1,5 @@
 use Rattle.judge.proofs.OpenRows.{OpenTo}
 use Rattle.judge.proofs.grading.open_row.Given as goal
 
-abbrev pub invariant-loop-c : goal.invariant-loop-c
-invariant-loop-c g l = OpenTo l.row l.c l.bits
+abbrev pub invariant-loop-place : goal.invariant-loop-place
+invariant-loop-place g l = OpenTo l.row l.place l.bits

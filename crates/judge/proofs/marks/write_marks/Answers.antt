@@ -1,13 +1,12 @@
-use Rattle.std.proofs.Common.{ℕ, subst, arith}
-use Rattle.judge.specs.Marking.{Written}
-use Rattle.judge.proofs.Marking.{written_none, written_more}
+use Rattle.std.proofs.Common.{ℕ, ◌≡◌, length, subst, arith}
+use Rattle.std.proofs.lemmas.List.{length-take-le}
+use Rattle.judge.proofs.Marking.{MarkedBelow, marked_more, written_front}
 use Rattle.judge.proofs.marks.write_marks.Goals as goal
 
-pub loop-event-init : goal.loop-event-init
-loop-event-init c = written_none _ _
-
 pub loop-event-preserved : goal.loop-event-preserved
-loop-event-preserved c = written_more _ _ _ _ (omega arith) c.loop-event.invariant
+loop-event-preserved c = marked_more _ _ _ (omega arith) c.loop-event.invariant
 
 pub returns : goal.returns
-returns c = subst (λ (n : ℕ). Written c.args.set n c.args.marks.now c.loop-event.marks) (omega arith) c.loop-event.invariant
+returns c =
+    let long : length c.loop-event.mark-items ≡ c.args.size = omega (arith, length-take-le c.args.size c.args.marks.now c.requires.room) in
+    written_front _ _ _ _ long (subst (λ (n : ℕ). MarkedBelow c.args.set n c.loop-event.mark-items) (omega arith) c.loop-event.invariant)

@@ -1,17 +1,15 @@
 use Rattle.std.proofs.Common.{◌≡◌, length, arith}
-use Rattle.tables.proofs.Pinned.{pinned_none, pinned_more, pinned_own}
+use Rattle.std.proofs.lemmas.List.{set-get_or}
+use Rattle.tables.proofs.Pinned.{pinned_more, pinned_own}
 use Rattle.tables.proofs.pins.close_others.Goals as goal
 use Rattle.tables.proofs.pins.close_others.Goals.{then-c-number, else-c-number}
-
-pub loop-c-init : goal.loop-c-init
-loop-c-init g c = pinned_none c.args.number c.args.row.now
 
 pub loop-c-preserved : goal.loop-c-preserved
 loop-c-preserved g c =
     let before = c.args.row.now in
     elim c.if-c-number.branch [
       | then-c-number w ↦ rw w.row-is (pinned_more c.args.number c.loop-c.c before c.loop-c.row (omega arith) w.if-c-number.true c.loop-c.invariant)
-      | else-c-number w ↦ rw w.row-is (pinned_own c.args.number c.loop-c.c before c.loop-c.row w.if-c-number.false c.loop-c.invariant)
+      | else-c-number w ↦ rw (w.row-is, set-get_or) (pinned_own c.args.number c.loop-c.c before c.loop-c.row w.if-c-number.false c.loop-c.invariant)
     ]
 
 pub returns : goal.returns

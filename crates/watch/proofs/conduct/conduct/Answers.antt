@@ -1,9 +1,10 @@
-use Rattle.std.proofs.Common.{vec_items, sym, ap, ◌∙◌, subst}
+use Rattle.std.proofs.Common.{[], ◌∷◌, vec_items, sym, ap, ◌∙◌, subst}
+use Rattle.std.proofs.lemmas.List.Sums.{fold-append}
 use Rattle.watch.specs.Calls.{step, steps}
 use Rattle.watch.specs.Ledger.{Ledger}
 use Rattle.watch.specs.Meaning.{ledger_of}
 use Rattle.watch.specs.Run.{Right}
-use Rattle.watch.proofs.Runs.{steps_push, run_push, opens_at, all_came}
+use Rattle.watch.proofs.Runs.{run_push, opens_at, all_came}
 use Rattle.watch.proofs.conduct.conduct.Goals as goal
 
 pub loop-call-preserved : goal.loop-call-preserved
@@ -16,7 +17,7 @@ loop-call-preserved g c =
     let right : Right k (steps k start ys) call c.carry_out-answer.result =
     subst (λ (l : Ledger g.row.T-Value.Denot). Right k l call c.carry_out-answer.result) c.loop-call.invariant.1 done.right in (
       rw c.in_ok-push.ensures.items (run_push k start ys (vec_items c.loop-call.answers) call _ c.loop-call.invariant.0 right),
-      done.after ∙ ap (λ (l : Ledger g.row.T-Value.Denot). step k l call) c.loop-call.invariant.1 ∙ sym (steps_push k start ys call),
+      done.after ∙ ap (λ (l : Ledger g.row.T-Value.Denot). step k l call) c.loop-call.invariant.1 ∙ sym (fold-append (step k) start ys (call ∷ [])),
     )
 
 pub returns : goal.returns

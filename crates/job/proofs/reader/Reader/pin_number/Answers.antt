@@ -1,45 +1,27 @@
-use Rattle.std.proofs.Common.{◌<◌, length, take, Err, refl, ap, ◌∙◌, rules}
-use Rattle.std.proofs.lemmas.Bool.{true≢false}
-use Rattle.job.specs.Words.{coming}
-use Rattle.job.specs.Taking.{pin_step}
-use Rattle.job.specs.Answers.{state_of}
-use Rattle.job.specs.declared.expected.Section.TheVariants.{Pins}
-use Rattle.job.proofs.Taken.{stands_more, took_pin, refused_pin}
+use Rattle.std.proofs.Common.{is_ok, ap, ◌∙◌, sym, rules}
+use Rattle.job.specs.Content.{laid}
+use Rattle.job.proofs.Taken.{answered_ok, stands_more, stands_still}
 use Rattle.job.proofs.reader.Reader.pin_number.Goals as goal
 
-pub returns-in-Err : goal.returns-in-Err
-returns-in-Err c =
+pub invariant_of-self : goal.invariant_of-self
+invariant_of-self c =
     let s = c.args.self.now in
+    let refuses = ap is_ok (sym c.pin.ensures.answer) ∙ answered_ok c.pin.result ∙ sym c.map_err.ensures.variant ∙ ap is_ok c.in_err-map_err.was in
     record {
-      step = λ log.
-          let content = (state_of s log).content in
-          ap Err c.refused.ensures
-          ∙ ap (pin_step c.args.after c.args.event c.args.first content c.args.n) c.in-Err.ensures
-          ∙ refused_pin s.size c.args.event c.args.n s.pins s.pairs s.pinned s.stands content c.args.after c.args.first;
-      same = λ q log. refl;
-      events = refl;
+      sized = s.sized;
+      pin_room = s.pin_room;
+      trace_room = s.trace_room;
+      log_room = s.log_room;
+      stands = stands_still s.job.size c.args.event c.args.n s.job.pins.items s.pinned c.pin.new.self s.sized s.stands c.pin.ensures.after refuses;
     }
 
-pub invariant_of-self-2 : goal.invariant_of-self-2
-invariant_of-self-2 c =
+pub invariant_of-self-3 : goal.invariant_of-self-3
+invariant_of-self-3 c =
     let s = c.args.self.now in
     record {
       sized = s.sized;
       pin_room = search rules;
       trace_room = search rules;
       log_room = search rules;
-      stands = stands_more s.size c.args.event c.args.n s.pins s.pairs s.pinned s.stands c.in_default.ensures (search rules) (search rules);
-    }
-
-pub returns : goal.returns
-returns c =
-    let s = c.args.self.now in
-    let in' : s.pairs < length s.pins = search rules in
-    record {
-      step = λ log.
-          took_pin s.size c.args.event c.args.n s.pins s.pairs s.pinned s.stands c.in_default.ensures in'
-          s.kind c.next_of-self.result c.args.after c.args.first (take s.places s.trace) (take s.events log)
-          (c.next_of-self.ensures ∙ ap (coming Pins) c.saturating_sub.ensures);
-      same = λ q log. absurd (true≢false q);
-      events = refl;
+      stands = stands_more s.job.size c.args.event c.args.n s.job.pins.items s.pinned c.pin.new.self s.sized s.stands c.pin.ensures.after ∙ ap (laid s.job.size) (sym c.push.ensures.items);
     }

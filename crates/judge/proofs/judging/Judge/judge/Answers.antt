@@ -1,4 +1,4 @@
-use Rattle.std.proofs.Common.{◌≡◌, ◌*◌, ◌≤◌, true, length, sym, mul-le-mul, arith}
+use Rattle.std.proofs.Common.{◌≡◌, ℕ, ◌*◌, ◌≤◌, true, length, sym, mul-le-mul, subst, arith}
 use Rattle.std.proofs.lemmas.Bool.Decides.{nat_tests}
 use Rattle.judge.specs.Judging.{has_room}
 use Rattle.judge.proofs.judging.Judge.judge.Goals as goal
@@ -14,7 +14,6 @@ settle_window-verdict-requires g c =
     let len = c.as_mut_slice-grades.ensures.len in
     let square : c.size-size.result * c.size-size.result ≤ length c.as_mut_slice-grades.result.now = omega arith in
     record {
-      size = sized;
-      grid = record { small = omega arith; whole = square };
+      grid = record { small = small; whole = subst (λ (n : ℕ). n * n ≤ length c.as_mut_slice-grades.result.now) sized square };
       room = record { numbers = grind (arith, nat_tests); event_prices = grind (arith, nat_tests); number_prices = grind (arith, nat_tests); marks = grind (arith, nat_tests); work = grind (arith, nat_tests) };
     }

@@ -1,9 +1,8 @@
-use Rattle.std.proofs.Common.{arith, rules}
 use Rattle.judge.proofs.Theory.{theory}
 use Rattle.judge.proofs.judging.Judge.new.Goals as goal
 
-pub returns-in_err-push : goal.returns-in_err-push
-returns-in_err-push g c = record { memory = search rules; theory = theory _ }
+pub returns-in_err-grades-clause-theory : goal.returns-in_err-grades-clause-theory
+returns-in_err-grades-clause-theory g c = theory _
 
-pub returns : goal.returns
-returns g c = record { memory = omega arith; theory = theory _ }
+pub returns-clause-theory : goal.returns-clause-theory
+returns-clause-theory g c = theory _

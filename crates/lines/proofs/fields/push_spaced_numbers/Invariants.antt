@@ -1,7 +1,0 @@
-use Rattle.std.proofs.Common.{◌≡◌, ◌++◌, map, take, string_bytes, decimal}
-use Rattle.lines.specs.Lines.{spaced}
-use Rattle.lines.proofs.fields.push_spaced_numbers.Given as goal
-
-abbrev pub invariant-loop-number : goal.invariant-loop-number
-invariant-loop-number l =
-    string_bytes l.out ≡ string_bytes l.initial.out ++ spaced (map decimal (take l.number-index l.numbers))

@@ -1,0 +1,9 @@
+use Rattle.std.proofs.Common.{take}
+use Rattle.std.specs.Fmt.{HasWritten, IsPlainFormatter, decimal}
+use Rattle.shown.specs.Text.{spaced}
+use Rattle.shown.proofs.lists.NumbersDisplay.fmt.Given as goal
+
+-- the numbers so far are written
+abbrev pub invariant-loop-number : goal.invariant-loop-number
+invariant-loop-number g l =
+    IsPlainFormatter l.initial.f → HasWritten g.W.Write.write_str_gives l.initial.f (spaced decimal (take l.number-index l.number-items)) l.f
