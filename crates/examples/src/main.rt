@@ -25,7 +25,7 @@ fn run(rt: &HostRuntime) -> anyhow::Result<()> {
     Ok(())
 }
 
-// The answer to a text, whatever it is.
+// The answer to a text, whatever it is. The log is an array, as the call is lent one.
 fn answer_to(heap: Global, text: &[u8]) -> Result<String, AllocError> {
     let mut log = [0; MAX_LOG];
     match answer_text(heap, text, &mut log)? {

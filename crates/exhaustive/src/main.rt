@@ -254,7 +254,7 @@ fn renumberings(heap: Global, size: u32) -> Result<Vec<Vec<u32>>, AllocError> {
         .try_collect(heap)
 }
 
-// Compares the report of a job, window by window.
+// Compares the report of a job, window by window. The log is an array, as the call for the answer is lent one.
 fn compare_job(heap: Global, job: &Job) -> anyhow::Result<Counts> {
     let text = format!(in heap; "{job}")?;
     let mut log = [0; 4096];
