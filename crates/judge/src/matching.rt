@@ -102,6 +102,7 @@ impl Matching {
 }
 
 // The events that have too few open numbers among them, as a bit row (bit r - 1 for event r), or None where each event can have a number of its own.
+// The size is a plain number here, below the limit by the table's law, since nothing else of the table is wanted.
 pub(crate) fn blocked_events(rows: &[Row; WIDTH], size: u32) -> Option<Row>
     requires size { size ≤ max_size }
     requires rows { (r : ℕ) → r < size → slice_index rows.now r < 2 ^ size }
