@@ -11,14 +11,14 @@ use Rattle.job.specs.declared.accepted.Pin.{Pin}
 use Rattle.answer.specs.Answers.{with_pins, job_ledger}
 use Rattle.answer.proofs.Facts.{size_fits, trace_fits}
 
-same_ok : {X Y : Type 0} (x y : X) → ◌≡◌ {A = Result X Y} (Ok x) (Ok y) → x ≡ y
+pub same_ok : {X Y : Type 0} (x y : X) → ◌≡◌ {A = Result X Y} (Ok x) (Ok y) → x ≡ y
 same_ok x y e = cc
 
 not_both : {X Y : Type 0} (x : X) (y : Y) → ◌≡◌ {A = Result X Y} (Err y) (Ok x) → ⊥
 not_both x y e = let z : ◌≡◌ {A = ℕ} 0 1 = cc in omega arith
 
 module _ {C : Type 0} (k : Kind C) (price : ℕ → ℕ → Grade C) (bound : C) (c : Content) (valid : Valid c) (usable : Bool) (use-it : usable ≡ true) (trace : List ℕ) (traced : trace ≡ c.trace) where
-  table_made : make_answer k price usable c.size trace ≡ Ok (summing k price c.size c.trace [])
+  pub table_made : make_answer k price usable c.size trace ≡ Ok (summing k price c.size c.trace [])
   table_made = rw (traced, size_fits c valid, trace_fits c valid, use-it) refl
 
   pub table_not_refused : (n : ℕ) → Err n ≡ make_answer k price usable c.size trace → ⊥

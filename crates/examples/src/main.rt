@@ -69,18 +69,29 @@ fn compare_row(rt: &HostRuntime, row: &str) -> anyhow::Result<()> {
 }
 
 // The bytes that a row of the table spells.
-fn unspelled(heap: Global, spelled: &str) -> anyhow::Result<Vec<u8>> {
-    let mut pieces = spelled.split("\\x");
-    let plain = pieces.next().unwrap_or("");
-    let mut bytes = plain.as_bytes().to_vec(heap)?;
-    for piece in pieces {
-        let (digits, plain) = piece
-            .split_at_checked(2)
-            .context("a byte has too few digits")?;
-        bytes.push(u8::from_str_radix(digits, 16)?)?;
-        bytes.extend_from_slice(plain.as_bytes())?;
+fn unspelled(heap: Global, spelled: &str) -> Result<Vec<u8>, AllocError> {
+    let mut bytes = Vec::new(heap);
+    let mut rest = spelled.as_bytes().iter();
+    while let Some(byte) = rest.next() {
+        if *byte == b'\\' {
+            let _x = rest.next();
+            let high = digit(rest.next());
+            let low = digit(rest.next());
+            bytes.push(high.wrapping_mul(16).wrapping_add(low))?;
+        } else {
+            bytes.push(*byte)?;
+        }
     }
     Ok(bytes)
+}
+
+// The value of a digit in base sixteen, 0 where there is none.
+fn digit(byte: Option<&u8>) -> u8 {
+    match byte.copied() {
+        Some(digit @ b'0'..=b'9') => digit - b'0',
+        Some(digit @ b'a'..=b'f') => digit - b'a' + 10,
+        _ => 0,
+    }
 }
 
 // A job that blanks bring to the longest length is read, and one byte more is too long.

@@ -19,7 +19,7 @@ skip_by place b bs n true e h =
     cond-true _ _ _ e ∙ h ∙ ap (λ k. runs_from false k (drop n bs)) (omega arith) ∙ ap (λ k. runs_from false (place + k) (drop k (b ∷ bs))) more
 skip_by place b bs n false e h = ap (λ k. runs_from false k (b ∷ bs)) (omega arith)
 
-runs_skip : (place : ℕ) (bs : List ℕ) → runs_from false place bs ≡ runs_from false (place + prefix_len blank bs) (drop (prefix_len blank bs) bs)
+pub runs_skip : (place : ℕ) (bs : List ℕ) → runs_from false place bs ≡ runs_from false (place + prefix_len blank bs) (drop (prefix_len blank bs) bs)
 runs_skip place [] = refl
 runs_skip place (b ∷ bs) = skip_by place b bs (prefix_len blank bs) (blank b) refl (runs_skip (place + 1) bs)
 

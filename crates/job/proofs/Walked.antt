@@ -28,11 +28,11 @@ module _ (s : State) (rs : List Run) where
   reached_goes r rest t e q = ap (reached s) e ∙ ap (λ (a : Result State Finding). by_answer a (λ t. reached t rest) (λ g. s)) q
 
 -- a spoiled run
-step_spoiled : (s : State) (r : Run) (f : Fault) → sort r ≡ Err f.place → cause_number f.cause ≡ 1 → step s r ≡ Err (finding_of f)
+pub step_spoiled : (s : State) (r : Run) (f : Fault) → sort r ≡ Err f.place → cause_number f.cause ≡ 1 → step s r ≡ Err (finding_of f)
 step_spoiled s r f e q = ap (sort_step s r) e ∙ ap (λ n. Err (finding n f.place)) (sym q)
 
 -- the run of a token
-arrives : (s : State) (text : List ℕ) (from to : ℕ) (token : Token) → ((p : ℕ) → token ≡ End p → ⊥) → Next text from to (Ok token) → (r : Run) × (runs_at from text ≡ r ∷ runs_at to text) × (step s r ≡ token_step s.expected token s.content)
+pub arrives : (s : State) (text : List ℕ) (from to : ℕ) (token : Token) → ((p : ℕ) → token ≡ End p → ⊥) → Next text from to (Ok token) → (r : Run) × (runs_at from text ≡ r ∷ runs_at to text) × (step s r ≡ token_step s.expected token s.content)
 arrives s text from to (Word run place) other n = (run_at place run.now, n.0, ap (sort_step s (run_at place run.now)) n.1)
 arrives s text from to (Digits run place) other n = (run_at place run.digits.now, n.0, ap (sort_step s (run_at place run.digits.now)) n.1)
 arrives s text from to (End place) other n = absurd (other place refl)
@@ -41,10 +41,10 @@ pub read_is : (text : List ℕ) → length text ≤ max_text → (w : Result Sta
 read_is text h w e =
     cond-false _ _ _ (le-ltb max_text (length text) h) ∙ ap (λ (a : Result State Finding). by_answer a (finish (length text)) (λ f. Err f)) e
 
-events_are : (text : List ℕ) → length text ≤ max_text → (s : State) → reached start (runs text) ≡ s → events_read text ≡ s.content.log
+pub events_are : (text : List ℕ) → length text ≤ max_text → (s : State) → reached start (runs text) ≡ s → events_read text ≡ s.content.log
 events_are text h s e = cond-false _ _ _ (le-ltb max_text (length text) h) ∙ ap (λ (t : State). t.content.log) e
 
-log_written : (log entry xs : List ℕ) (events : ℕ) → events ≤ length log → xs ≡ take events log → drop events log ≡ drop events entry → log ≡ written xs entry
+pub log_written : (log entry xs : List ℕ) (events : ℕ) → events ≤ length log → xs ≡ take events log → drop events log ≡ drop events entry → log ≡ written xs entry
 log_written log entry xs events h e kept =
     let long : length xs ≡ events = ap length e ∙ length-take-le events log h in
     sym (take-append-drop events log)
@@ -52,7 +52,7 @@ log_written log entry xs events h e kept =
     ∙ ap (λ (ys : List ℕ). ys ++ drop events entry) (sym e)
     ∙ ap (λ n. xs ++ drop n entry) (sym long)
 
-drop_further : (xs ys : List ℕ) (m n : ℕ) → m ≤ n → drop m xs ≡ drop m ys → drop n xs ≡ drop n ys
+pub drop_further : (xs ys : List ℕ) (m n : ℕ) → m ≤ n → drop m xs ≡ drop m ys → drop n xs ≡ drop n ys
 drop_further xs ys m n h e =
     let more : m + (n - m) ≡ n = omega arith in
     ap (λ k. drop k xs) (sym more) ∙ sym (drop-drop (n - m) m xs) ∙ ap (drop (n - m)) e ∙ drop-drop (n - m) m ys ∙ ap (λ k. drop k ys) more

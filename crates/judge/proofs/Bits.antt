@@ -53,7 +53,7 @@ abbrev all_but : ℕ → ℕ
 all_but k = 2 ^ max_size - 1 - 2 ^ k
 
 -- with one bit less, one fewer is counted
-ones_less : (c n r : ℕ) → Has n c → r + 2 ^ c ≡ n → ones r < ones n
+pub ones_less : (c n r : ℕ) → Has n c → r + 2 ^ c ≡ n → ones r < ones n
 ones_less zero n r h e =
     let s : r / 2 ≡ n / 2 = omega (arith, bit_at_lowest n) in
     omega (arith, bit_at_lowest n, ones_step n, ones_step r, ap ones s)

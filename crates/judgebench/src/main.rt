@@ -126,7 +126,11 @@ fn full_table<P: Pricing + Drop>(
     pricing: P,
     plan: Plan,
 ) -> anyhow::Result<Summed<P>> {
-    let trace = random.list(heap, plan.places, plan.size)?;
+    // place by place: a trace that is too long for a table is drawn all the same, in memory that grows as it is drawn
+    let mut trace = Vec::new(heap);
+    for _ in 0..plan.places {
+        trace.push(random.one_to(plan.size))?;
+    }
     let Ok(mut table) = Summed::new(pricing, plan.size, &trace) else {
         return Err(anyhow!("the table is refused"));
     };

@@ -7,7 +7,7 @@ ghost use Rattle.std.specs.Prelude.{◌≤◌, length, IfOk};
 use answer::{Answer, answer_text};
 use job::{MAX_LOG, MAX_TEXT};
 use std::io;
-use std::io::Read;
+use std::io::{Read, Write};
 use std::process::ExitCode;
 
 // Room for one byte more than a text may have, so that a longer one is seen to be too long.
@@ -17,27 +17,37 @@ fn main(rt: HostRuntime) -> anyhow::Result<ExitCode> {
     run(&rt)
 }
 
-// Writes the answer; the status says whether that is a report. Text and log have fixed memory, and only the lines of the
-// answer are allocated.
+// Writes the answer, as a whole and not piece by piece as `print!` would; the status says whether that is a report. Text and
+// log have fixed memory, and only the lines of the answer are allocated.
 fn run(rt: &HostRuntime) -> anyhow::Result<ExitCode> {
     let mut text = [0; ROOM];
     let mut log = [0; MAX_LOG];
-    let count = fill(rt.stdin(), &mut text)?;
+    let count = fill(&mut rt.stdin(), &mut text)?;
     let (lines, status) = match answer_text(rt.alloc(), &text[0..count], &mut log)? {
         Answer::Report(lines) => (lines, ExitCode::SUCCESS),
         // the fault line says it all
         Answer::Fault(line) => (line, ExitCode::FAILURE),
     };
-    print!(rt; "{lines}")?;
+    rt.stdout().write_all(lines.as_bytes())?;
     Ok(status)
 }
 
-// Reads until the buffer is full or the input ends; how many bytes it then holds. `take` lets no more through than there
-// is room for, and `min` says so to the caller.
-fn fill(input: impl Read + Drop, buffer: &mut [u8]) -> io::Result<usize>
+// Reads until the buffer is full or the input ends; how many bytes it then holds. Each read has all the room that is left,
+// and one that fails is not tried again: `io::copy` and `read_to_end` would do both otherwise.
+fn fill(input: &mut impl Read, buffer: &mut [u8]) -> io::Result<usize>
     ensures { IfOk result (λ n. n ≤ length buffer.old) }
 {
-    let size = buffer.len();
-    let count = io::copy(&mut input.take(size as u64), &mut &mut *buffer)?;
-    Ok(size.min(count as usize))
+    let mut held = 0;
+    for _ in 0..u64::MAX {
+        if held >= buffer.len() {
+            break;
+        }
+        let end = buffer.len();
+        let count = input.read(&mut buffer[held..end])?;
+        if count == 0 {
+            break;
+        }
+        held += count;
+    }
+    Ok(held)
 }

@@ -1,5 +1,5 @@
 -- Rows that are filled place by place.
-use Rattle.std.proofs.Common.{◌≡◌, ℕ, ◌+◌, ◌<◌, ◌≤◌, Bool, true, false, cond, ◌&&◌, leb, List, map, length, get_or, set, sym, refl, ap, ◌∙◌, ⊎_elim, arith, length-set, get_or-set_other, get_or-set_same, below_more}
+use Rattle.std.proofs.Common.{◌≡◌, ℕ, ◌+◌, ◌<◌, ◌≤◌, Bool, true, false, cond, ◌&&◌, leb, List, map, length, get_or, set, min, sym, refl, ap, ◌∙◌, ⊎_elim, arith, length-set, get_or-set_other, get_or-set_same, below_more}
 use Rattle.std.specs.List.{range_with_len}
 use Rattle.std.proofs.lemmas.List.FromFn.{length-map-range_with_len, get_or-map-range_with_len}
 use Rattle.std.proofs.lemmas.List.{ext_get_or, get_or_default}
@@ -105,4 +105,12 @@ module _ {C : Type 0} (k : Kind C) (price : ℕ → Grade C) where
         (λ above. let here : j ≡ n = omega arith in rw here (get_or-set_same row n x Closed h ∙ e ∙ ap (add_grade k (price (n + 1))) (get_or_default row n d Closed h ∙ p.beyond n (omega arith))))
         (cases_lt j n);
     beyond = λ j l. get_or-set_other row n j x Closed (λ (q : j ≡ n). omega arith) ∙ p.beyond j (omega arith);
+  }
+
+  -- past the end of the row there is nothing to add
+  pub placed_past : (n size : ℕ) (before row : List (Grade C)) → n ≡ min size (length before) → Placed k price n before row → Placed k price size before row
+  placed_past n size before row end p = record {
+    whole = p.whole;
+    inside = λ j l m. p.inside j l (omega arith);
+    beyond = λ j l. p.beyond j (omega arith);
   }

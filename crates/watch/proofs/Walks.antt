@@ -17,18 +17,18 @@ ahead i over none w =
     record { fed = i + w.fed; hit = w.hit; counts = (w.counts.0, over + w.counts.1, none + w.counts.2) }
 
 module _ {C : Type 0} (i o n : ℕ) (w : Next C) where
-  ahead_short : ahead i o n (onward None w) ≡ ahead (i + 1) o n w
+  pub ahead_short : ahead i o n (onward None w) ≡ ahead (i + 1) o n w
   ahead_short =
       let fed : i + (w.fed + 1) ≡ i + 1 + w.fed = omega arith in
       λ j. record { fed = fed j; hit = w.hit; counts = (w.counts.0, o + w.counts.1, n + w.counts.2) }
 
-  ahead_miss : (c : C) → ahead i o n (onward (Some (Over c)) w) ≡ ahead (i + 1) (o + 1) n w
+  pub ahead_miss : (c : C) → ahead i o n (onward (Some (Over c)) w) ≡ ahead (i + 1) (o + 1) n w
   ahead_miss c =
       let fed : i + (w.fed + 1) ≡ i + 1 + w.fed = omega arith in
       let over : o + (w.counts.1 + 1) ≡ o + 1 + w.counts.1 = omega arith in
       λ j. record { fed = fed j; hit = w.hit; counts = (w.counts.0, over j, n + w.counts.2) }
 
-  ahead_blocked : ahead i o n (onward (Some Never) w) ≡ ahead (i + 1) o (n + 1) w
+  pub ahead_blocked : ahead i o n (onward (Some Never) w) ≡ ahead (i + 1) o (n + 1) w
   ahead_blocked =
       let fed : i + (w.fed + 1) ≡ i + 1 + w.fed = omega arith in
       let none : n + (w.counts.2 + 1) ≡ n + 1 + w.counts.2 = omega arith in

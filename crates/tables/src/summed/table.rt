@@ -106,10 +106,9 @@ fn add_place<P: Pricing>(pricing: &P, size: usize, trace: u32, row: &mut [Grade<
     requires { size ≤ max_size }
     ensures { Placed P.Value.Cost.kind (P.Pricing.prices pricing.now trace) size row.old row.new }
 {
-    for (c, sum) in row.iter_mut().enumerate() {
-        if c < size {
-            *sum = plus_place(pricing, trace, c as u32 + 1, *sum);
-        }
+    let end = size.min(row.len());
+    for (c, sum) in row[..end].iter_mut().enumerate() {
+        *sum = plus_place(pricing, trace, c as u32 + 1, *sum);
     }
 }
 
