@@ -4,14 +4,16 @@
 // bytes it adds to a text. Where memory runs out it returns an error, and part of a line may stand there.
 #![tactic(auto)]
 
-ghost use Rattle.std.specs.Prelude.{◌≡◌, ℕ, List, [], ◌∷◌, ◌++◌, map, Some, IfSome, IfOk, string_bytes, codes, decimal};
+ghost use Rattle.std.specs.Prelude.{◌≡◌, [], ◌∷◌, ◌++◌, map, IfSome, IfOk, string_bytes, codes, decimal};
 ghost use Rattle.std.specs.Fmt.{signed_decimal};
-ghost use Rattle.lines.specs.Lines.{spaced, line, Adds};
+ghost use Rattle.lines.specs.Lines.{line, Adds};
 
+use fields::{end_line, push_number, push_space, push_spaced_number, push_word};
 use printed::Printed;
 use std::alloc::{AllocError, Global};
 use std::fmt::Display;
 
+pub mod fields;
 pub mod printed;
 
 // The line of a fault: the layer that it lies in, its number there, and its place.
@@ -23,7 +25,14 @@ pub fn fault_line<L: Display + Drop>(
 ) -> Result<String, AllocError>
     ensures { IfOk result (λ s. IfSome (L.Display.output layer) (λ word. string_bytes s ≡ line (codes "fault" ∷ word ∷ decimal number ∷ decimal place ∷ []))) }
 {
-    format!(in heap; "fault {layer} {number} {place}\n")
+    let word = layer.to_string(heap)?;
+    let mut out = String::from_str(heap, "fault")?;
+    push_space(&mut out)?;
+    push_word(&mut out, &word)?;
+    push_spaced_number(&mut out, number as usize)?;
+    push_spaced_number(&mut out, place)?;
+    end_line(&mut out)?;
+    Ok(out)
 }
 
 // The line of a hit: its position, what it costs, and the numbers of its events.
@@ -35,29 +44,23 @@ pub fn push_hit<C: Printed>(
 ) -> Result<(), AllocError>
     ensures { Adds result out.old out.new (line (decimal position ∷ (map signed_decimal (C.Printed.parts cost.now) ++ map decimal numbers.now))) }
 {
-    write!(out, "{position}")?;
+    push_number(out, position)?;
     cost.push_parts(out)?;
-    push_spaced(out, numbers)?;
-    writeln!(out)
+    for number in numbers {
+        push_spaced_number(out, *number as usize)?;
+    }
+    end_line(out)
 }
 
 // The line of a word and the counts after it.
 pub fn push_count_line(out: &mut String, word: &str, counts: &[usize]) -> Result<(), AllocError>
     ensures { Adds result out.old out.new (line (word.now ∷ map decimal counts.now)) }
 {
-    write!(out, "{word}")?;
-    push_spaced(out, counts)?;
-    writeln!(out)
-}
-
-// Each item after a space, as its type prints it.
-fn push_spaced<T: Display>(out: &mut String, items: &[T]) -> Result<(), AllocError>
-    ensures { (text : T → List ℕ) → ((x : T) → T.Display.output x ≡ Some (text x)) → Adds result out.old out.new (spaced (map text items.now)) }
-{
-    for item in items {
-        write!(out, " {item}")?;
+    push_word(out, word)?;
+    for count in counts {
+        push_spaced_number(out, *count)?;
     }
-    Ok(())
+    end_line(out)
 }
 
 #[cfg(test)]

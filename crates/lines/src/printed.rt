@@ -3,6 +3,7 @@ ghost use Rattle.std.specs.Prelude.{List, [], ◌∷◌, ◌++◌, map, ℤ};
 ghost use Rattle.std.specs.Fmt.{signed_decimal};
 ghost use Rattle.lines.specs.Lines.{spaced, Adds};
 
+use crate::fields::{push_signed, push_space};
 use costs::pair::Pair;
 use costs::plain::Plain;
 use std::alloc::AllocError;
@@ -21,7 +22,8 @@ impl Printed for Plain {
     ghost parts = { λ cost. cost.value ∷ [] };
 
     fn push_parts(&self, out: &mut String) -> Result<(), AllocError> {
-        write!(out, " {self}")
+        push_space(out)?;
+        push_signed(out, self.value())
     }
 }
 
