@@ -5,7 +5,7 @@ ghost use Rattle.costs.specs.Plain.{opposite as opposed, plain_kind, plain_of, p
 ghost use Rattle.costs.specs.PlainLaws.{plain_laws};
 
 use super::Plain;
-use crate::{Cost, SPAN_LIMIT, formed};
+use crate::{Cost, SPAN_LIMIT};
 use std::fmt;
 
 impl Plain {
@@ -56,7 +56,8 @@ impl Cost for Plain {
     }
 
     fn plus(self, other: Plain) -> Plain {
-        if !formed(self.span(), other.span()) {
+        // both spans are at most the limit, so their total fits
+        if self.value.unsigned_abs() + other.value.unsigned_abs() > SPAN_LIMIT {
             return Self::zero();
         }
         Plain {
