@@ -108,8 +108,8 @@ module _ {C : Type 0} (k : Kind C) (price : ℕ → Grade C) where
   }
 
   -- past the end of the row there is nothing to add
-  pub placed_past : (n size : ℕ) (before row : List (Grade C)) → n ≡ min size (length before) → Placed k price n before row → Placed k price size before row
-  placed_past n size before row end p = record {
+  pub placed_past : (n size : ℕ) (before row : List (Grade C)) → min size (length before) ≤ n → n ≤ size → Placed k price n before row → Placed k price size before row
+  placed_past n size before row past small p = record {
     whole = p.whole;
     inside = λ j l m. p.inside j l (omega arith);
     beyond = λ j l. p.beyond j (omega arith);

@@ -1,4 +1,4 @@
-use Rattle.std.proofs.Common.{◌≡◌, ◌+◌, ◌<◌, ◌++◌, length, take, drop, set, get_or, min, sym, subst, ap, ◌∙◌, refl, arith}
+use Rattle.std.proofs.Common.{◌+◌, ◌<◌, ◌++◌, length, drop, subst, refl, arith}
 use Rattle.std.proofs.lemmas.List.{set-append_left, get_or_append_left, length-take-le, length-append, take-append-drop}
 use Rattle.tables.specs.Rows.{Placed}
 use Rattle.tables.proofs.Rows.{placed_none, placed_more, placed_past}
@@ -26,4 +26,4 @@ pub returns : goal.returns
 returns g c =
     let before = c.args.row.now in
     let wide = length-take-le c.min-end.result before (omega arith) in
-    placed_past g.P.Value.Cost.kind (g.P.Pricing.prices c.args.pricing.now c.args.trace) c.loop-c.c c.args.size before (c.loop-c.sum-items ++ drop c.min-end.result before) (omega arith) c.loop-c.invariant
+    placed_past g.P.Value.Cost.kind (g.P.Pricing.prices c.args.pricing.now c.args.trace) c.loop-c.c c.args.size before (c.loop-c.sum-items ++ drop c.min-end.result before) (omega arith) (omega arith) c.loop-c.invariant
