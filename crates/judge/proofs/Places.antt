@@ -15,7 +15,7 @@ use Rattle.judge.specs.Search.{relax, better, reached, lowered, repriced}
 use Rattle.judge.specs.Tree.{Nearest, Going}
 use Rattle.judge.specs.Turning.{Turning}
 use Rattle.judge.specs.Rows.{Agree, listed, or_none, listed_or_none, path_by, gone_over, found_by, NoneLeft, less_end}
-use Rattle.judge.specs.Settling.{Solvable, Named, Seated, Relaxed, Searching, Found, seat_in, holder_in, is_scanned, finder_of, scanned_in, finder_in, path_in, take_number, turned, WayBack}
+use Rattle.judge.specs.Settling.{Solvable, Named, Seated, Relaxed, Searching, Found, seat_in, holder_in, is_scanned, finder_of, scanned_in, finder_in, path_in, fresh_seats, take_number, turned, WayBack}
 use Rattle.judge.proofs.Puts.{put_here, put_there, none_some}
 use Rattle.judge.proofs.Violators.{violators}
 use Rattle.judge.proofs.Marking.{marks_of, marks_are}
@@ -220,10 +220,6 @@ augments {C} k laws g s r bounded size seats v reached paths j found seated e e-
 
     end_is : e ≡ found.cost
     end_is = e-is ∙ sym (listed_suc paths k.zero j) ∙ cost-is (suc j) (omega (arith, found.below)) found.cost found.nearest.1
-
--- seats before any event has a number
-abbrev pub fresh_seats : Seats
-fresh_seats = record { numbers = replicate 32 None; holders = replicate 32 None }
 
 pub nobody_seated : {C : Type 0} (k : Kind C) (laws : Laws k) (g : ℕ → ℕ → Grade C) (s : ℕ) → s ≤ 32 → (v : ℕ → C) → Agree s v (λ c. k.zero) → Seated k g s fresh_seats v
 nobody_seated k laws g s small v zero_is = record {

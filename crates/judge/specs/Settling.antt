@@ -1,5 +1,5 @@
 -- What settling starts from and ends with.
-use Rattle.std.specs.Prelude.{◌≡◌, ℕ, zero, suc, ◌-◌, ◌<◌, ◌≤◌, Bool, true, false, cond, List, length, Some, None, Option, ◌==◌, ◌≢◌, slice_index_or, slice_set}
+use Rattle.std.specs.Prelude.{◌≡◌, ℕ, zero, suc, ◌-◌, ◌<◌, ◌≤◌, Bool, true, false, cond, List, length, Some, None, Option, ◌==◌, ◌≢◌, slice_index_or, slice_set, replicate}
 use Rattle.costs.specs.Kind.{Kind}
 use Rattle.tables.specs.Table.{Within}
 use Rattle.tables.specs.declared.grade.Grade.{Grade}
@@ -25,6 +25,10 @@ pub record Solvable {C : Type 0} (k : Kind C) (g : ℕ → ℕ → Grade C) (s :
   pub numbers : List ℕ
   pub renumbers : Renumbering s numbers
   pub is_allowed : allowed g numbers ≡ true
+
+-- seats before any event has a number
+abbrev pub fresh_seats : Seats
+fresh_seats = record { numbers = replicate 32 None; holders = replicate 32 None }
 
 -- the number of each event, 0 for none
 abbrev pub seat_in : Seats → ℕ → ℕ

@@ -16,7 +16,7 @@ use crate::grading::Pairs;
 use crate::marks::write_marks;
 use crate::matching::blocked_events;
 use crate::reporting::{renumbering_cost, write_event_prices, write_numbers};
-use crate::settling::settle;
+use crate::settling::{Seats, settle};
 use crate::sheet::{Sheet, filled};
 use crate::verdict::Verdict;
 use costs::Cost;
@@ -177,7 +177,8 @@ fn settle_pairs<C: Cost>(
     ensures cost { result ≡ cost_by C.Cost.kind (graded pairs.now) (take pairs.now.size numbers.new) }
     ensures beyond { (drop pairs.now.size numbers.new ≡ drop pairs.now.size numbers.old) × (drop pairs.now.size event_prices.new ≡ drop pairs.now.size event_prices.old) × (drop pairs.now.size number_prices.new ≡ drop pairs.now.size number_prices.old) }
 {
-    let seats = settle(pairs, number_prices, work);
+    let mut seats = Seats::new();
+    settle(pairs, &mut seats, number_prices, work);
     write_numbers(&seats.numbers, pairs.size(), numbers);
     write_event_prices(pairs, numbers, number_prices, event_prices);
     let Grade::Open(cost) = renumbering_cost(pairs, numbers) else {

@@ -3,7 +3,7 @@ ghost use Rattle.std.specs.Prelude.{◌≡◌, ℕ, suc, ◌-◌, ◌<◌, ◌�
 ghost use Rattle.tables.specs.Table.{Within};
 ghost use Rattle.judge.specs.Seating.{SeatsOneMore};
 ghost use Rattle.judge.specs.Rows.{Agree, AgreePast, listed_cost, shorter, Preferred, NearestPlace, less_end};
-ghost use Rattle.judge.specs.Settling.{graded, Solvable, Ready, Relaxed, Seated, Found, seat_in, finder_of, scanned_in, finder_in, path_in, take_number, turned, WayBack};
+ghost use Rattle.judge.specs.Settling.{graded, Solvable, Ready, Relaxed, Seated, Found, seat_in, finder_of, scanned_in, finder_in, path_in, fresh_seats, take_number, turned, WayBack};
 
 use crate::WIDTH;
 use crate::grading::Pairs;
@@ -83,6 +83,16 @@ fn is_nearer<C: Cost>(best: Option<(usize, C)>, key: C, free: bool) -> bool
 }
 
 impl Seats {
+    // Nobody has a number yet.
+    pub(crate) fn new() -> Seats
+        ensures { result ≡ fresh_seats }
+    {
+        Seats {
+            holders: [None; WIDTH],
+            numbers: [None; WIDTH],
+        }
+    }
+
     // The event takes the number; the one that it had is answered.
     fn seat(&mut self, event: u32, number: u32) -> Option<u32>
         requires event { Within 32 event }
@@ -239,19 +249,22 @@ fn clear<C: Cost>(size: usize, prices: &mut [C])
 }
 
 // A renumbering of least cost, and the prices of numbers that prove it so: event after event takes a number, along a shortest augmenting path.
-pub(crate) fn settle<C: Cost>(pairs: &Pairs<C>, prices: &mut [C], paths: &mut [C]) -> Seats
+// The seats are lent, whatever they were: by value they are copied twice, a third of the time of the smallest table (timed).
+pub(crate) fn settle<C: Cost>(
+    pairs: &Pairs<C>,
+    seats: &mut Seats,
+    prices: &mut [C],
+    paths: &mut [C],
+)
     requires solvable { Solvable C.Cost.kind (graded pairs.now) pairs.now.size }
     requires prices { pairs.now.size ≤ length prices.old }
     requires paths { pairs.now.size ≤ length paths.old }
-    ensures seated { Seated C.Cost.kind (graded pairs.now) pairs.now.size result (listed_cost C.Cost.kind prices.new) }
-    ensures all { (i : ℕ) → Within pairs.now.size i → 1 ≤ seat_in result i }
+    ensures seated { Seated C.Cost.kind (graded pairs.now) pairs.now.size seats.new (listed_cost C.Cost.kind prices.new) }
+    ensures all { (i : ℕ) → Within pairs.now.size i → 1 ≤ seat_in seats.new i }
     ensures beyond { AgreePast pairs.now.size (listed_cost C.Cost.kind prices.new) (listed_cost C.Cost.kind prices.old) }
 {
     clear(pairs.size(), prices);
-    let mut seats = Seats {
-        holders: [None; WIDTH],
-        numbers: [None; WIDTH],
-    };
+    *seats = Seats::new();
     let mut search = Search {
         pairs: *pairs,
         known: [Reach::Unseen; WIDTH],
@@ -259,7 +272,6 @@ pub(crate) fn settle<C: Cost>(pairs: &Pairs<C>, prices: &mut [C], paths: &mut [C
     };
     // event after event; nothing is indexed
     for place in 0..pairs.size() {
-        search.seat_next(place as u32 + 1, &mut seats, prices);
+        search.seat_next(place as u32 + 1, seats, prices);
     }
-    seats
 }

@@ -10,14 +10,14 @@ write_event_prices-requires g c =
     let k = g.C.Cost.kind in
     let s = c.args.pairs.now.size in
     let grades = graded c.args.pairs.now in
-    let v = listed_cost k c.settle-seats.new.prices in
-    let numbers : (r : ℕ) → Within s r → Some (listed c.write_numbers.new.numbers 0 r) ≡ listed c.settle-seats.result.numbers None r = λ r w. c.write_numbers.ensures.numbers r (omega (arith, w)) in
-    let seated = c.settle-seats.ensures.seated in
-    let all = c.settle-seats.ensures.all in
+    let v = listed_cost k c.settle.new.prices in
+    let numbers : (r : ℕ) → Within s r → Some (listed c.write_numbers.new.numbers 0 r) ≡ listed c.settle.new.seats.numbers None r = λ r w. c.write_numbers.ensures.numbers r (omega (arith, w)) in
+    let seated = c.settle.ensures.seated in
+    let all = c.settle.ensures.all in
     record {
       many = (search rules, (search rules, search rules));
-      numbers = numbers_within k grades s c.settle-seats.result v seated all c.write_numbers.new.numbers numbers;
-      allowed = numbers_open k grades s c.settle-seats.result v seated all c.write_numbers.new.numbers numbers;
+      numbers = numbers_within k grades s c.settle.new.seats v seated all c.write_numbers.new.numbers numbers;
+      allowed = numbers_open k grades s c.settle.new.seats v seated all c.write_numbers.new.numbers numbers;
     }
 
 pub unreachable-requires : goal.unreachable-requires
@@ -25,10 +25,10 @@ unreachable-requires g c =
     let k = g.C.Cost.kind in
     let s = c.args.pairs.now.size in
     let grades = graded c.args.pairs.now in
-    let v = listed_cost k c.settle-seats.new.prices in
-    let numbers : (r : ℕ) → Within s r → Some (listed c.write_numbers.new.numbers 0 r) ≡ listed c.settle-seats.result.numbers None r = λ r w. c.write_numbers.ensures.numbers r (omega (arith, w)) in
+    let v = listed_cost k c.settle.new.prices in
+    let numbers : (r : ℕ) → Within s r → Some (listed c.write_numbers.new.numbers 0 r) ≡ listed c.settle.new.seats.numbers None r = λ r w. c.write_numbers.ensures.numbers r (omega (arith, w)) in
     let long : s ≤ length c.write_numbers.new.numbers = search rules in
-    let cert = certificate k grades s c.settle-seats.result v c.settle-seats.ensures.seated c.settle-seats.ensures.all c.write_numbers.new.numbers numbers g.met.C.Cost.laws c.requires.solvable.bounded long c.write_event_prices.new.event_prices c.write_event_prices.ensures.prices in
+    let cert = certificate k grades s c.settle.new.seats v c.settle.ensures.seated c.settle.ensures.all c.write_numbers.new.numbers numbers g.met.C.Cost.laws c.requires.solvable.bounded long c.write_event_prices.new.event_prices c.write_event_prices.ensures.prices in
     never_closed _ (c.in_default.ensures ∙ renumbering_open k grades (take s c.write_numbers.new.numbers) cert.1)
 
 pub returns : goal.returns
@@ -36,23 +36,23 @@ returns g c =
     let k = g.C.Cost.kind in
     let s = c.args.pairs.now.size in
     let grades = graded c.args.pairs.now in
-    let v = listed_cost k c.settle-seats.new.prices in
-    let numbers : (r : ℕ) → Within s r → Some (listed c.write_numbers.new.numbers 0 r) ≡ listed c.settle-seats.result.numbers None r = λ r w. c.write_numbers.ensures.numbers r (omega (arith, w)) in
+    let v = listed_cost k c.settle.new.prices in
+    let numbers : (r : ℕ) → Within s r → Some (listed c.write_numbers.new.numbers 0 r) ≡ listed c.settle.new.seats.numbers None r = λ r w. c.write_numbers.ensures.numbers r (omega (arith, w)) in
     let long : s ≤ length c.write_numbers.new.numbers = search rules in
-    let cert = certificate k grades s c.settle-seats.result v c.settle-seats.ensures.seated c.settle-seats.ensures.all c.write_numbers.new.numbers numbers g.met.C.Cost.laws c.requires.solvable.bounded long c.write_event_prices.new.event_prices c.write_event_prices.ensures.prices in
-    let kept : length c.settle-seats.new.prices ≡ length c.args.number_prices.now = search rules in
+    let cert = certificate k grades s c.settle.new.seats v c.settle.ensures.seated c.settle.ensures.all c.write_numbers.new.numbers numbers g.met.C.Cost.laws c.requires.solvable.bounded long c.write_event_prices.new.event_prices c.write_event_prices.ensures.prices in
+    let kept : length c.settle.new.prices ≡ length c.args.number_prices.now = search rules in
     record {
       certified = cert;
       cost = open_same _ _ (c.in-Open.ensures ∙ renumbering_open k grades (take s c.write_numbers.new.numbers) cert.1);
-      beyond = (subst (λ (n : ℕ). drop n c.write_numbers.new.numbers ≡ drop n c.args.numbers.now) c.size.ensures c.write_numbers.ensures.rest, c.write_event_prices.ensures.rest, same_beyond k s c.args.number_prices.now c.settle-seats.new.prices kept c.settle-seats.ensures.beyond);
+      beyond = (subst (λ (n : ℕ). drop n c.write_numbers.new.numbers ≡ drop n c.args.numbers.now) c.size.ensures c.write_numbers.ensures.rest, c.write_event_prices.ensures.rest, same_beyond k s c.args.number_prices.now c.settle.new.prices kept c.settle.ensures.beyond);
     }
 
 pub renumbering_cost-requires : goal.renumbering_cost-requires
 renumbering_cost-requires g c =
     let k = g.C.Cost.kind in
     let s = c.args.pairs.now.size in
-    let numbers : (r : ℕ) → Within s r → Some (listed c.write_numbers.new.numbers 0 r) ≡ listed c.settle-seats.result.numbers None r = λ r w. c.write_numbers.ensures.numbers r (omega (arith, w)) in
+    let numbers : (r : ℕ) → Within s r → Some (listed c.write_numbers.new.numbers 0 r) ≡ listed c.settle.new.seats.numbers None r = λ r w. c.write_numbers.ensures.numbers r (omega (arith, w)) in
     record {
       many = search rules;
-      numbers = numbers_within k (graded c.args.pairs.now) s c.settle-seats.result (listed_cost k c.settle-seats.new.prices) c.settle-seats.ensures.seated c.settle-seats.ensures.all c.write_numbers.new.numbers numbers;
+      numbers = numbers_within k (graded c.args.pairs.now) s c.settle.new.seats (listed_cost k c.settle.new.prices) c.settle.ensures.seated c.settle.ensures.all c.write_numbers.new.numbers numbers;
     }

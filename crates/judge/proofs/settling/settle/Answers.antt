@@ -2,16 +2,18 @@ use Rattle.std.proofs.Common.{◌+◌, refl, sym, ◌∙◌, subst, arith}
 use Rattle.judge.specs.Rows.{AgreePast, listed}
 use Rattle.judge.specs.Seating.{SeatsOneMore}
 use Rattle.judge.specs.Settling.{graded, seat_in, Seated, Ready}
-use Rattle.judge.proofs.Places.{nobody_seated, seated_none, seated_more}
+use Rattle.judge.proofs.Places.{SeatedUpTo, nobody_seated, seated_none, seated_more}
 use Rattle.judge.proofs.settling.settle.Goals as goal
 
 pub loop-place-init : goal.loop-place-init
 loop-place-init g c =
     let k = g.C.Cost.kind in
-    let pairs = c.args.pairs.now in (
+    let pairs = c.args.pairs.now in
+    let prices = listed c.clear.new.prices k.zero in
+    let fresh = sym c.new.ensures in (
       refl,
-      nobody_seated k g.met.C.Cost.laws (graded pairs) pairs.size pairs.grid.small (listed c.clear.new.prices k.zero) (λ d w. c.clear.ensures.zero d (omega (arith, w))),
-      seated_none pairs.size,
+      subst (λ seats. Seated k (graded pairs) pairs.size seats prices) fresh (nobody_seated k g.met.C.Cost.laws (graded pairs) pairs.size pairs.grid.small prices (λ d w. c.clear.ensures.zero d (omega (arith, w)))),
+      subst (λ seats. SeatedUpTo pairs.size 0 (seat_in seats)) fresh (seated_none pairs.size),
       λ d h. refl,
     )
 
