@@ -163,7 +163,9 @@ fn events_from(log: &[u32], position: usize) -> &[u32]
     &log[position - 1..]
 }
 
-// Where the first event is that is 0 or above the size, counted from 0.
+// Where the first event is that is 0 or above the size, counted from 0. Out of line, since this loop over the whole rest
+// of the log comes out shorter by itself than inside of `next`.
+#[inline(never)]
 fn first_outside(size: u32, events: &[u32]) -> Option<usize>
     ensures { result ≡ position (λ e. not (within size e)) events.now }
 {
