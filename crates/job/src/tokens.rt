@@ -147,9 +147,11 @@ impl<'a> Tokens<'a> {
         if let Some(n) = spoiled(run, sort) {
             return Err(Cause::Byte.at(place + n));
         }
-        let run = ascii(run);
         match sort {
-            Sort::Letter => Ok(Token::Word { run, place }),
+            Sort::Letter => Ok(Token::Word {
+                run: ascii(run),
+                place,
+            }),
             Sort::Digit => Ok(Token::Digits {
                 run: Numeral { digits: run },
                 place,

@@ -249,7 +249,8 @@ fn clear<C: Cost>(size: usize, prices: &mut [C])
 }
 
 // A renumbering of least cost, and the prices of numbers that prove it so: event after event takes a number, along a shortest augmenting path.
-// The seats are lent, whatever they were: by value they are copied twice, a third of the time of the smallest table (timed).
+// The seats are lent, whatever they were: handed back by value they were copied twice, which took a third of the time of
+// judging the smallest table (timed).
 pub(crate) fn settle<C: Cost>(
     pairs: &Pairs<C>,
     seats: &mut Seats,

@@ -56,7 +56,8 @@ impl Cost for Plain {
     }
 
     fn plus(self, other: Plain) -> Plain {
-        // both spans are at most the limit, so their total fits
+        // both spans are at most the limit, so their total fits. `formed` would say this test, but is compiled without a
+        // branch, so that each sum of a walk waits for the one before (timed)
         if self.value.unsigned_abs() + other.value.unsigned_abs() > SPAN_LIMIT {
             return Self::zero();
         }

@@ -1,14 +1,25 @@
 // A run of digits.
-ghost use Rattle.std.specs.Prelude.{◌≡◌, ◌<◌, true, length};
+ghost use Rattle.std.specs.Prelude.{◌≡◌, ◌+◌, ◌-◌, ◌*◌, ◌<◌, ◌≤◌, true, length, IfNone, IfSome};
 ghost use Rattle.std.specs.Str.{all_ascii_digits};
+ghost use Rattle.job.specs.Limits.{max_number};
 
 use crate::MAX_NUMBER;
 
 #[derive(Clone, Copy)]
 pub struct Numeral<'a> {
-    pub(crate) digits: &'a str,
+    pub(crate) digits: &'a [u8],
     ghost some: { 0 < length digits.now },
     ghost all: { all_ascii_digits digits.now ≡ true },
+}
+
+// The number with a digit more, none above the limit. It asks nothing of the two, so that a fold may call it.
+fn with_digit(n: u32, digit: u8) -> Option<u32>
+    ensures some { IfSome result (λ m. (m ≡ n * 10 + (digit - 48)) × (m ≤ max_number)) }
+    ensures none { IfNone result (max_number < n * 10 + (digit - 48)) }
+{
+    let digit = u32::from(digit.saturating_sub(b'0'));
+    let n = n.checked_mul(10)?.checked_add(digit)?;
+    (n <= MAX_NUMBER).then_some(n)
 }
 
 impl<'a> Numeral<'a> {
@@ -22,16 +33,13 @@ impl<'a> Numeral<'a> {
         if self.is_needless() {
             return None;
         }
-        match self.digits.parse::<u32>() {
-            Ok(n) if n <= MAX_NUMBER => Some(n),
-            _ => None,
-        }
+        self.digits.iter().try_fold(0, |n, d| with_digit(n, *d))
     }
 
     // Whether the digits begin with a zero that is not the whole number.
     fn is_needless(&self) -> bool
         ensures { result ≡ needless_zero self.now.digits.now }
     {
-        self.digits.len() > 1 && self.digits.starts_with('0')
+        matches!(self.digits, [b'0', _, ..])
     }
 }

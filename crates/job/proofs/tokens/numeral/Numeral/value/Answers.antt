@@ -1,23 +1,17 @@
-use Rattle.std.proofs.Common.{sym, arith}
-use Rattle.std.proofs.lemmas.Str.Parse.{parse_digits}
-use Rattle.job.proofs.Decimal.{own}
-use Rattle.job.proofs.Values.{numeral_small, numeral_large, numeral_huge}
+use Rattle.std.proofs.Common.{ap, sym, ◌∙◌, arith, rules}
+use Rattle.job.specs.Numerals.{numeral, needless_zero}
+use Rattle.job.proofs.Values.{value_read}
 use Rattle.job.proofs.tokens.numeral.Numeral.value.Goals as goal
 
-pub returns-in-Ok : goal.returns-in-Ok
-returns-in-Ok c =
-    let run = c.args.self.now in
-    let read = rw c.in-Ok.is at (parse_digits own 32 run.digits.now c.parse.result c.parse.ensures.value.0 run.all) in
-    sym (numeral_small run.digits.now c.in-Ok.n (sym c.if-is_needless.ensures) c.if-n-le-MAX_NUMBER.true read.1)
-
-pub returns-in_default : goal.returns-in_default
-returns-in_default c =
-    let run = c.args.self.now in
-    let read = rw c.in-Ok.is at (parse_digits own 32 run.digits.now c.parse.result c.parse.ensures.value.0 run.all) in
-    sym (numeral_large run.digits.now (sym c.if-is_needless.ensures) (omega (arith, read.1)))
-
-pub returns-in_default-2 : goal.returns-in_default-2
-returns-in_default-2 c =
-    let run = c.args.self.now in
-    let read = rw c.in_default.is at (parse_digits own 32 run.digits.now c.parse.result c.parse.ensures.value.0 run.all) in
-    sym (numeral_huge run.digits.now c.in_default.field-0 (sym c.if-is_needless.ensures) run.some read)
+pub returns : goal.returns
+returns c =
+    let ran = c.try_fold.ensures.ran in
+    let digits = ran.0 in
+    let stopped_by = ran.1 in
+    let given = ran.4 in
+    let turns = ran.5 in
+    let last = ran.6 in
+    let same = c.iter.ensures.rest in
+    let clean = ap needless_zero same ∙ sym (c.if-is_needless.ensures) in
+    value_read (λ p. p.1) _ (λ p d q turn. search rules) _ digits stopped_by c.iter.result given.0 _ _ (ran.2, ran.3) c.try_fold.result (omega arith) given.1 given.2 turns last clean (λ d stop. search rules)
+    ∙ ap numeral same
